@@ -1,4 +1,4 @@
--- The first bad part of a list that is read from its front: it is that of the rest, as long as no bad one was read.
+-- The first bad part of a list that is read from its beginning: it is that of the rest, as long as no bad one was read.
 use Rattle.std.proofs.Common.{◌≡◌, ◌<◌, ◌≤◌, ◌+◌, ◌-◌, ◌∷◌, [], ℕ, suc, List, Option, Some, None, Bool, true, false, cond, nat_lt, length, take, refl, ap, ◌∙◌, arith, option_map, length-append}
 use Rattle.std.specs.Prelude.{is_none}
 use Rattle.std.specs.List.{position, position_or_len}
@@ -6,9 +6,9 @@ use Rattle.std.proofs.lemmas.Bool.Decides.{nat_tests}
 use Rattle.std.proofs.lemmas.List.Sums.{sum_by-cons}
 use Rattle.air_base.specs.LeadingParts.{after_part, first_part, is_no_space}
 use Rattle.air_base.specs.NumberLists.{bad_part_at, part_start}
-use Rattle.air_base.specs.Pieces.{cut_at}
-use Rattle.air_base.proofs.LeadingPartLemmas.{front_behind}
-use Rattle.air_base.proofs.ListFronts.{parts_front}
+use Rattle.air_base.specs.Parts.{parts_at}
+use Rattle.air_base.proofs.LeadingPartLemmas.{leading_behind}
+use Rattle.air_base.proofs.LeadingListLemmas.{parts_leading}
 
 -- The byte at which the first bad one of these parts begins.
 abbrev pub bad_of : {A : Type 0} → (List ℕ → Option A) → List (List ℕ) → Option ℕ
@@ -16,7 +16,7 @@ bad_of value parts = option_map (part_start parts) (position (λ part. is_none (
 
 -- The first bad part of a text is that of its rest, as many bytes further on as stand before the rest.
 abbrev pub BadFrom : {A : Type 0} → (List ℕ → Option A) → List ℕ → List ℕ → Type 0
-BadFrom value text rest = (length rest ≤ length text) × (bad_part_at value text ≡ option_map (λ at. length text - length rest + at) (bad_of value (cut_at 32 rest)))
+BadFrom value text rest = (length rest ≤ length text) × (bad_part_at value text ≡ option_map (λ at. length text - length rest + at) (bad_of value (parts_at 32 rest)))
 
 less_next : (a b : ℕ) → nat_lt (suc a) (suc b) ≡ nat_lt a b
 less_next a b = by (nat_lt a b) refl
@@ -46,7 +46,7 @@ module _ {A : Type 0} (value : List ℕ → Option A) where
   pub bad_start : (text : List ℕ) → 0 < length text → BadFrom value text text
   unfolding bad_part_at
   bad_start [] some = absurd (omega arith)
-  bad_start (c ∷ cs) some = (omega arith, by (bad_of value (cut_at 32 (c ∷ cs))))
+  bad_start (c ∷ cs) some = (omega arith, by (bad_of value (parts_at 32 (c ∷ cs))))
     where
       by : (o : Option ℕ) → o ≡ option_map (λ at. length (c ∷ cs) - length (c ∷ cs) + at) o
       by None = refl
@@ -56,18 +56,18 @@ module _ {A : Type 0} (value : List ℕ → Option A) where
     pub bad_here : value (first_part rest) ≡ None → bad_part_at value text ≡ Some (length text - length rest)
     bad_here none =
         from.1
-        ∙ ap (option_map (λ at. length text - length rest + at)) (ap (bad_of value) (parts_front rest) ∙ bad_first (first_part rest) _ none)
+        ∙ ap (option_map (λ at. length text - length rest + at)) (ap (bad_of value) (parts_leading rest) ∙ bad_first (first_part rest) _ none)
         ∙ ap Some (omega arith)
 
     pub bad_more : (x : A) (space : ℕ) (more : List ℕ) → value (first_part rest) ≡ Some x → after_part rest ≡ space ∷ more → BadFrom value text more
     unfolding first_part after_part
-    bad_more x space more one after = (omega (arith, long, from.0), from.1 ∙ ap (option_map (λ at. length text - length rest + at)) parts ∙ by (bad_of value (cut_at 32 more)))
+    bad_more x space more one after = (omega (arith, long, from.0), from.1 ∙ ap (option_map (λ at. length text - length rest + at)) parts ∙ by (bad_of value (parts_at 32 more)))
       where
         long : length rest ≡ length (first_part rest) + 1 + length more
-        long = omega (arith, ap length (front_behind is_no_space rest), length-append (first_part rest) (after_part rest), ap length after)
+        long = omega (arith, ap length (leading_behind is_no_space rest), length-append (first_part rest) (after_part rest), ap length after)
 
-        parts : bad_of value (cut_at 32 rest) ≡ option_map (λ at. length (first_part rest) + 1 + at) (bad_of value (cut_at 32 more))
-        parts = ap (bad_of value) (parts_front rest) ∙ rw after (bad_later (first_part rest) (cut_at 32 more) x one)
+        parts : bad_of value (parts_at 32 rest) ≡ option_map (λ at. length (first_part rest) + 1 + at) (bad_of value (parts_at 32 more))
+        parts = ap (bad_of value) (parts_leading rest) ∙ rw after (bad_later (first_part rest) (parts_at 32 more) x one)
 
         by : (o : Option ℕ) → option_map (λ at. length text - length rest + at) (option_map (λ at. length (first_part rest) + 1 + at) o) ≡ option_map (λ at. length text - length more + at) o
         by None = refl

@@ -4,12 +4,12 @@ pub mod ListLaws
 pub mod LeadingPartLemmas
 pub mod LeadingNumbers
 pub mod MoreDigits
-pub mod NumberFronts
+pub mod LeadingNumberLemmas
 pub mod PlainNumbers
-pub mod Cuts
-pub mod ListFronts
+pub mod PartsAt
+pub mod LeadingListLemmas
 pub mod PlainLists
 pub mod BadParts
 pub mod NumberExamples
 pub mod ListExamples
-mod PieceExamples
+mod PartExamples

@@ -13,22 +13,22 @@ use Rattle.std.proofs.lemmas.List.Splits.{join_with_byte-slice_split, slice_spli
 use Rattle.air_base.specs.Numbers.{number_of, number_text}
 use Rattle.air_base.specs.NumberLists.{all_some, bad_part_at, list_of, list_text, part_start, parts_of}
 use Rattle.air_base.proofs.NumberLemmas.{number_digits, one_spelling, text_spells}
-use Rattle.air_base.proofs.PartLemmas.{all_some-Some, parts_of-pieces, pieces}
+use Rattle.air_base.proofs.PartLemmas.{all_some-Some, between_spaces, parts_of-between}
 
 -- A part of a list has a byte, and no space.
 pub record IsPart (part : List ℕ) : Type 0 where
   pub some : 0 < length part
   pub no_space : All (λ b. eqb b 32 ≡ false) part
 
-part_alone : (part : List ℕ) → IsPart part → pieces part ≡ part ∷ []
+part_alone : (part : List ℕ) → IsPart part → between_spaces part ≡ part ∷ []
 part_alone part is = slice_split_none (λ b. eqb b 32) part is.no_space
 
 -- The parts of a text made of parts are these.
-pieces-list_text : (part : List ℕ) (parts : List (List ℕ)) → All IsPart (part ∷ parts) → pieces (list_text (part ∷ parts)) ≡ part ∷ parts
-pieces-list_text part [] are = part_alone part (All-head IsPart part [] are)
-pieces-list_text part (next ∷ parts) are =
+between_spaces-list_text : (part : List ℕ) (parts : List (List ℕ)) → All IsPart (part ∷ parts) → between_spaces (list_text (part ∷ parts)) ≡ part ∷ parts
+between_spaces-list_text part [] are = part_alone part (All-head IsPart part [] are)
+between_spaces-list_text part (next ∷ parts) are =
     slice_split_at (λ b. eqb b 32) part 32 (list_text (next ∷ parts)) (All-head IsPart part (next ∷ parts) are).no_space refl
-    ∙ ap (λ l. part ∷ l) (pieces-list_text next parts (All-tail IsPart part (next ∷ parts) are))
+    ∙ ap (λ l. part ∷ l) (between_spaces-list_text next parts (All-tail IsPart part (next ∷ parts) are))
 
 list_text_some : (part : List ℕ) (parts : List (List ℕ)) → 0 < length part → 0 < length (list_text (part ∷ parts))
 list_text_some part [] some = some
@@ -38,7 +38,7 @@ list_text_some (b ∷ bs) (next ∷ parts) some = omega arith
 pub parts_of-list_text : (parts : List (List ℕ)) → All IsPart parts → parts_of (list_text parts) ≡ parts
 parts_of-list_text [] are = refl
 parts_of-list_text (part ∷ parts) are =
-    parts_of-pieces (list_text (part ∷ parts)) (list_text_some part parts (All-head IsPart part parts are).some) ∙ pieces-list_text part parts are
+    parts_of-between (list_text (part ∷ parts)) (list_text_some part parts (All-head IsPart part parts are).some) ∙ between_spaces-list_text part parts are
 
 -- A text is that of its parts.
 pub list_text-parts_of : (text : List ℕ) → list_text (parts_of text) ≡ text

@@ -47,8 +47,8 @@ unfolding number_of
 no_numeral text h = rw h refl
 
 -- A text that begins badly spells no number: without a byte, or with a zero before more.
-pub bad_front : (text : List ℕ) → ((0 < length text) × (get_or text 0 0 ≡ 48 → length text ≡ 1) → ⊥) → None ≡ number_of text
-bad_front text bad = no_numeral text (false_from_ne_true (is_numeral text) (λ is. let parts = parts_of_numeral text is in bad (parts.some, parts.zero_alone)))
+pub bad_leading : (text : List ℕ) → ((0 < length text) × (get_or text 0 0 ≡ 48 → length text ≡ 1) → ⊥) → None ≡ number_of text
+bad_leading text bad = no_numeral text (false_from_ne_true (is_numeral text) (λ is. let parts = parts_of_numeral text is in bad (parts.some, parts.zero_alone)))
 
 -- Nor does one with another byte than a digit.
 pub no_digit : (text : List ℕ) (i : ℕ) → i < length text → is_ascii_digit (get_or text i 0) ≡ false → None ≡ number_of text

@@ -4,12 +4,12 @@ use Rattle.std.specs.List.{slice_split}
 use Rattle.air_base.specs.NumberLists.{parts_of, all_some}
 
 -- The parts between spaces of a text that may be empty.
-abbrev pub pieces : List ℕ → List (List ℕ)
-pieces text = slice_split (λ b. eqb b 32) text
+abbrev pub between_spaces : List ℕ → List (List ℕ)
+between_spaces text = slice_split (λ b. eqb b 32) text
 
-pub parts_of-pieces : (text : List ℕ) → 0 < length text → parts_of text ≡ pieces text
-parts_of-pieces [] some = absurd (omega arith)
-parts_of-pieces (byte ∷ bytes) some = refl
+pub parts_of-between : (text : List ℕ) → 0 < length text → parts_of text ≡ between_spaces text
+parts_of-between [] some = absurd (omega arith)
+parts_of-between (byte ∷ bytes) some = refl
 
 -- Items are there at each place where they are.
 pub all_some-Some : {A : Type 0} (xs : List (Option A)) (items : List A) → xs ≡ map Some items → all_some xs ≡ Some items

@@ -1,9 +1,9 @@
--- A list is read from its front by plain parts: what one more leaves to read.
+-- A list is read from its beginning by plain parts: what one more leaves to read.
 use Rattle.std.proofs.Common.{◌<◌, ◌≤◌, ◌+◌, ◌++◌, ◌∷◌, [], ℕ, List, Option, length, get_or, drop, sym, ap, ◌∙◌, arith, length-drop}
 use Rattle.std.proofs.lemmas.List.{drop_all, drop_more}
 use Rattle.air_base.specs.NumberLists.{list_of}
-use Rattle.air_base.specs.ReadParts.{PlainAt, ReadsTo, Told, part_values}
-use Rattle.air_base.proofs.ListFronts.{after_short, prepend_none, list_last, list_more, list_spelled}
+use Rattle.air_base.specs.ReadParts.{IsReadSoFar, PlainAt, ReadsTo, part_values}
+use Rattle.air_base.proofs.LeadingListLemmas.{after_short, prepend_none, list_last, list_more, list_spelled}
 
 module _ {A : Type 0} (value : List ℕ → Option A) (text : List ℕ) where
   -- Nothing was read.
@@ -18,7 +18,7 @@ module _ {A : Type 0} (value : List ℕ → Option A) (text : List ℕ) where
         omega (arith, short, ap length plain.0.1, length-drop f.1 text, length-drop place text, plain.1, within)
 
     -- One more part was read.
-    pub reads_more : (done : List A) → place ≤ length text → Told value text done place → Told value text (done ++ f.0 ∷ []) (f.1 + 1)
+    pub reads_more : (done : List A) → place ≤ length text → IsReadSoFar value text done place → IsReadSoFar value text (done ++ f.0 ∷ []) (f.1 + 1)
     reads_more done within told =
         let rest = drop place text in (
           (λ on.

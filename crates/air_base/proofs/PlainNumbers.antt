@@ -6,8 +6,8 @@ use Rattle.std.proofs.lemmas.List.{append_cancel_right, drop-append-le, drop-dro
 use Rattle.air_base.specs.Numbers.{number_of}
 use Rattle.air_base.specs.LeadingParts.{DigitsRead, after_digits, after_part, behind, digits_of, ends_part, first_part, is_no_space}
 use Rattle.air_base.specs.ReadParts.{PlainAt}
-use Rattle.air_base.proofs.LeadingNumbers.{front_number, rest_read}
-use Rattle.air_base.proofs.NumberFronts.{after_ends, ended, part_ends}
+use Rattle.air_base.proofs.LeadingNumbers.{digits_number, rest_read}
+use Rattle.air_base.proofs.LeadingNumberLemmas.{after_ends, ended, part_ends}
 
 -- The text from a place on, as a slice has it.
 pub from_place : (text : List ℕ) (place : ℕ) → take (length text - place) (drop place text) ≡ drop place text
@@ -30,7 +30,7 @@ module _ (whole : List ℕ) (place behind len n : ℕ) (there : behind ≡ place
   stop_at stop = ap is_ascii_digit (get_or-drop place whole len 0 ∙ ap (λ i. get_or whole i 0) (sym there)) ∙ stop
 
   pub number_then : is_ascii_digit (get_or whole behind 0) ≡ false → number_of (digits_of text) ≡ Some n
-  number_then stop = front_number text len n read within (stop_at stop) some alone
+  number_then stop = digits_number text len n read within (stop_at stop) some alone
 
   rest_then : is_ascii_digit (get_or whole behind 0) ≡ false → after_digits text ≡ drop behind whole
   rest_then stop = sym (rest_read text len n read within (stop_at stop)) ∙ drop-drop len place whole ∙ ap (λ i. drop i whole) (sym there)

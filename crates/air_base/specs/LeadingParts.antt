@@ -1,4 +1,4 @@
--- The front of a text: its first part and its first digits, and what follows them.
+-- What a text begins with: its first part and its first digits, and what follows them.
 --
 -- The readers that go through a text part by part speak of these, here and in the crates above; what a whole text spells
 -- is said without them.
@@ -39,11 +39,11 @@ abbrev pub begins : ℕ → List ℕ → Bool
 begins byte [] = false
 begins byte (c ∷ cs) = c == byte
 
--- The digits at the front of a text.
+-- The leading digits of a text.
 unfoldable pub digits_of : List ℕ → List ℕ
 digits_of text = leading_part is_ascii_digit text
 
--- What follows the digits at the front of a text.
+-- What follows the leading digits of a text.
 unfoldable pub after_digits : List ℕ → List ℕ
 after_digits text = behind is_ascii_digit text
 
@@ -54,6 +54,6 @@ pub record DigitsRead (text : List ℕ) (i n : ℕ) : Type 0 where
   pub below : n < 2 ^ 64
 
 -- The value of the first part of a list, with what follows it; none where the part has no value.
-abbrev pub FrontIs : {A : Type 0} → (List ℕ → Option A) → List ℕ → Option (A × List ℕ) → Type 0
-FrontIs value text None = value (first_part text) ≡ None
-FrontIs value text (Some f) = (value (first_part text) ≡ Some f.0) × (f.1 ≡ after_part text)
+abbrev pub LeadingIs : {A : Type 0} → (List ℕ → Option A) → List ℕ → Option (A × List ℕ) → Type 0
+LeadingIs value text None = value (first_part text) ≡ None
+LeadingIs value text (Some f) = (value (first_part text) ≡ Some f.0) × (f.1 ≡ after_part text)

@@ -1,5 +1,5 @@
 pub mod Numbers
-pub mod Pieces
+pub mod Parts
 pub mod NumberLists
 pub mod ListFault
 pub mod LeadingParts

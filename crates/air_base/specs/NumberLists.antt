@@ -5,12 +5,12 @@
 -- definition. A leading, trailing or double space makes an empty part.
 use Rattle.std.specs.Prelude.{◌+◌, ℕ, List, [], ◌∷◌, Option, Some, None, length, take, map, is_none, option_map}
 use Rattle.std.specs.List.{sum_by, position, join_with_byte}
-use Rattle.air_base.specs.Pieces.{cut_at}
+use Rattle.air_base.specs.Parts.{parts_at}
 
 -- The parts of a text: one space stands between each two, and the empty text has none.
 abbrev pub parts_of : List ℕ → List (List ℕ)
 parts_of [] = []
-parts_of (byte ∷ bytes) = cut_at 32 (byte ∷ bytes)
+parts_of (byte ∷ bytes) = parts_at 32 (byte ∷ bytes)
 
 -- The byte at which a part begins, by its number: after the parts before it and one space for each.
 abbrev pub part_start : List (List ℕ) → ℕ → ℕ

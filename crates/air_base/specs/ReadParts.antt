@@ -1,10 +1,10 @@
 -- Parts of a list that are read by their places in it, and how much of the list was read.
 use Rattle.std.specs.Prelude.{◌≡◌, ◌<◌, ◌≤◌, ◌+◌, ◌++◌, ℕ, List, Option, Some, None, map, drop, get_or, length}
-use Rattle.air_base.specs.LeadingParts.{DigitsRead, FrontIs}
+use Rattle.air_base.specs.LeadingParts.{DigitsRead, LeadingIs}
 use Rattle.air_base.specs.NumberLists.{all_some, list_of}
-use Rattle.air_base.specs.Pieces.{cut_at}
+use Rattle.air_base.specs.Parts.{parts_at}
 
--- The digits at the front of a text, one to three of them, are a number: with no zero before others.
+-- The leading digits of a text, one to three of them, are a number: with no zero before others.
 abbrev pub ShortRead : List ℕ → ℕ → ℕ → Type 0
 ShortRead text few n = (0 < few) × (few ≤ 3) × DigitsRead text few n × (get_or text 0 0 ≡ 48 → few ≡ 1)
 
@@ -14,11 +14,11 @@ ShortAt text place f = (few : ℕ) × (f.1 ≡ place + few) × ShortRead (drop p
 
 -- The value of the part at a place, with the place at which the part ends.
 abbrev pub PlainAt : {A : Type 0} → (List ℕ → Option A) → List ℕ → ℕ → A × ℕ → Type 0
-PlainAt value text place f = FrontIs value (drop place text) (Some (f.0, drop f.1 text)) × (f.1 ≤ length text)
+PlainAt value text place f = LeadingIs value (drop place text) (Some (f.0, drop f.1 text)) × (f.1 ≤ length text)
 
 -- What the parts between spaces spell, of a text that isn't empty.
 abbrev pub part_values : {A : Type 0} → (List ℕ → Option A) → List ℕ → Option (List A)
-part_values value text = all_some (map value (cut_at 32 text))
+part_values value text = all_some (map value (parts_at 32 text))
 
 -- These elements, and then those.
 abbrev pub prepend : {A : Type 0} → List A → Option (List A) → Option (List A)
@@ -26,9 +26,9 @@ prepend done None = None
 prepend done (Some more) = Some (done ++ more)
 
 -- A list is told by the values of the parts up to a place and what the rest spells; behind the end there is no rest.
-abbrev pub Told : {A : Type 0} → (List ℕ → Option A) → List ℕ → List A → ℕ → Type 0
-Told value text done place = (place ≤ length text → prepend done (part_values value (drop place text)) ≡ list_of value text) × (length text < place → list_of value text ≡ Some done)
+abbrev pub IsReadSoFar : {A : Type 0} → (List ℕ → Option A) → List ℕ → List A → ℕ → Type 0
+IsReadSoFar value text done place = (place ≤ length text → prepend done (part_values value (drop place text)) ≡ list_of value text) × (length text < place → list_of value text ≡ Some done)
 
 -- Parts of a list were read up to a place: of their values this holds, and they tell the list.
 abbrev pub ReadsTo : {A : Type 0} → (List ℕ → Option A) → List ℕ → (List A → Type 0) → ℕ → Type 0
-ReadsTo value text Holds place = (done : List _) × Holds done × Told value text done place
+ReadsTo value text Holds place = (done : List _) × Holds done × IsReadSoFar value text done place

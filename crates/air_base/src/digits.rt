@@ -1,4 +1,4 @@
-//! Digits at the front of a text, read from a place on: up to four at a time, and one by one where the text has fewer than
+//! Leading digits of a text, read from a place on: up to four at a time, and one by one where the text has fewer than
 //! four bytes left or the number fifteen digits.
 //!
 //! A digit's byte is its value and 48 more, which is taken off once a number: two digits have 48 * 11 = 528 too much, three
@@ -122,7 +122,7 @@ fn with_digit(number: u64, digit: u8) -> Option<u64>
     Some(number * 10 + u64::from(digit))
 }
 
-/// The value of all digits at the front, of which so many were read, and their number: the others are read one by one.
+/// The value of all leading digits, of which so many were read, and their number: the others are read one by one.
 #[inline(never)]
 fn one_by_one(text: &[u8], from: usize, read: u64) -> Option<(u64, usize)>
     requires within { from ≤ length text.now }
@@ -142,7 +142,7 @@ fn one_by_one(text: &[u8], from: usize, read: u64) -> Option<(u64, usize)>
     Some((number, text.len()))
 }
 
-/// The value of all digits at the front, of which so many were read, and their number: none where the value is too great.
+/// The value of all leading digits, of which so many were read, and their number: none where the value is too great.
 #[inline(always)]
 pub fn all_digits(text: &[u8], from: usize, read: u64) -> Option<(u64, usize)>
     requires within { from ≤ length text.now }

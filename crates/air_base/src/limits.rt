@@ -11,6 +11,9 @@ pub const MOST_FULL_ITEMS: usize = 256;
 /// judged by ages.
 pub const AGE_CAP: u32 = 255;
 
+/// The newest version of buckets.
+pub const NEWEST_VERSION: u64 = 2;
+
 /// How many numbers there are for items: each has 16 bits.
 pub const ITEM_NUMBERS: usize = 65_536;
 

@@ -2,7 +2,7 @@
 use Rattle.std.proofs.Common.{◌≡◌, ℕ, false, List, [], Option, Some, None, take, ap, sym, ◌∙◌, subst, inl, inr}
 use Rattle.std.specs.Io.KnownBytes.{Appends, IsAtEnd}
 use Rattle.air_devices.specs.Counts.{KeepsCounts, Rose}
-use Rattle.air_devices.specs.Told.{AppendsPart, Becomes}
+use Rattle.air_devices.specs.WhatIsTold.{AppendsPart, Becomes}
 use Rattle.air_devices.specs.Shelves.{ShelfState}
 use Rattle.air_report.specs.declared.status.Status.{Status}
 use Rattle.air_report.specs.declared.status.Status.TheVariants as status

@@ -6,7 +6,7 @@ use Rattle.air_report.specs.declared.reading.limits.TheConstants.{MOST_REPORT_BY
 use Rattle.air_devices.specs.Counts.{KeepsCounts, NoCountFalls}
 use Rattle.air_devices.specs.Unchanged.{KeepsButLeft, KeepsButPrinted}
 use Rattle.air_devices.specs.Shelves.{ShelfState}
-use Rattle.air_devices.specs.Told.{ToldIs, WhereTold}
+use Rattle.air_devices.specs.WhatIsTold.{ToldIs, WhereTold}
 use Rattle.air_model.specs.Decks.{Deck, IsDeck}
 use Rattle.air_report.specs.declared.status.Status.{Status}
 use Rattle.air_report.specs.declared.status.Status.TheVariants as status

@@ -2,7 +2,7 @@
 use Rattle.std.proofs.Common.{ℕ, ◌≤◌, List, length, Option, Some, None, subst}
 use Rattle.air_base.specs.declared.limits.TheConstants.{MOST_DECK_BYTES}
 use Rattle.item_catalog.specs.Grammar.{Spells}
-use Rattle.air_devices.specs.Told.{ToldIs, WhereTold}
+use Rattle.air_devices.specs.WhatIsTold.{ToldIs, WhereTold}
 use Rattle.air_devices.specs.Shelves.{ShelfState}
 use Rattle.air_model.specs.Decks.{Deck, IsDeck}
 use Rattle.air_report.specs.declared.status.Status.{Status}

@@ -5,7 +5,7 @@ use Rattle.std.proofs.lemmas.List.Elements.{All-from_recursion}
 use Rattle.air_base.specs.declared.limits.TheConstants.{MOST_ASKED, MOST_DECK_BYTES, MOST_RATE}
 use Rattle.air_devices.specs.Counts.{Rose}
 use Rattle.air_devices.specs.Shelves.{ShelfState}
-use Rattle.air_devices.specs.Told.{WhereTold}
+use Rattle.air_devices.specs.WhatIsTold.{WhereTold}
 use Rattle.air_model.specs.Decks.{Deck, IsDeck, disks_in, script_history}
 use Rattle.air_model.specs.Drills.{drill_deck}
 use Rattle.air_model.specs.Outputs.{ether_of, script_tape}

@@ -4,7 +4,7 @@ use Rattle.std.specs.Prelude.{Result, Ok, Err, OnErr, OnOk}
 use Rattle.std.specs.Io.KnownBytes.{Appends}
 use Rattle.air_devices.specs.Counts.{KeepsCounts, Rose}
 use Rattle.air_devices.specs.Shelves.{ShelfState}
-use Rattle.air_devices.specs.Told.{AppendsPart, Becomes}
+use Rattle.air_devices.specs.WhatIsTold.{AppendsPart, Becomes}
 use Rattle.air_report.specs.declared.status.Status.{Status}
 use Rattle.air_report.specs.declared.status.Status.TheVariants as status
 use Rattle.air_cli.specs.ReportsAndTapes.{ReportAndTape, given_status}

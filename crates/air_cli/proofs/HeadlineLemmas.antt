@@ -4,7 +4,7 @@ use Rattle.std.specs.Io.KnownBytes.{Appends}
 use Rattle.air_devices.specs.Ears.{EarState}
 use Rattle.air_devices.specs.Masts.{Changes, MastState, SentBuckets}
 use Rattle.air_devices.specs.Shelves.{ShelfState}
-use Rattle.air_devices.specs.Told.{Becomes, WhereTold}
+use Rattle.air_devices.specs.WhatIsTold.{Becomes, WhereTold}
 use Rattle.air_model.specs.Aired.{scheme_in}
 use Rattle.air_model.specs.Decks.{script_history}
 use Rattle.air_model.specs.Judges.{by_entries}

@@ -2,7 +2,7 @@
 use Rattle.std.proofs.Common.{◌≡◌, ◌≤◌, ◌<◌, ◌+◌, ◌-◌, ◌^◌, ◌++◌, ◌∙◌, ℕ, List, [], ◌∷◌, Option, None, length, map, drop, All, refl, sym, ap, subst, arith, get_or}
 use Rattle.std.proofs.lemmas.List.{append-nil, length-map, map-append}
 use Rattle.std.proofs.lemmas.List.Elements.{All-map}
-use Rattle.air_devices.specs.Told.{ToldIs}
+use Rattle.air_devices.specs.WhatIsTold.{ToldIs}
 use Rattle.air_devices.specs.Shelves.{ShelfState}
 use Rattle.air_model.specs.Buckets.{Bucket, bucket_in}
 use Rattle.air_model.specs.Tapes.{TapeRead, tape_of, tape_read}
@@ -12,7 +12,7 @@ use Rattle.listeners.proofs.CountLemmas.{heard_by}
 use Rattle.listeners.proofs.HearLemmas.{counted_all, pieces}
 use Rattle.listeners.proofs.ReaderLemmas.{few_records, hears_none}
 use Rattle.air_cli.specs.Private.Pieces.{AreWholeRecords, HasCome, HaveHeardFile, IsRest}
-use Rattle.air_cli.proofs.TapeFronts.{many_bytes}
+use Rattle.air_cli.proofs.WholeRecordLemmas.{many_bytes}
 use Rattle.air_cli.proofs.ReadSoFar.{IsRead, all_told, came, let_go, nothing_came, read_none}
 
 -- Some records were read and let go, before the piece, and heard by all.

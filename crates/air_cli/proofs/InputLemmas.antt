@@ -3,7 +3,7 @@ use Rattle.std.proofs.Common.{◌≡◌, ℕ, ◌+◌, ◌≤◌, List, length, 
 use Rattle.std.specs.Prelude.{◌<◌}
 use Rattle.air_base.specs.declared.limits.TheConstants.{MOST_DECK_BYTES}
 use Rattle.air_devices.specs.Shelves.{ShelfState}
-use Rattle.air_devices.specs.Told.{WhereTold}
+use Rattle.air_devices.specs.WhatIsTold.{WhereTold}
 use Rattle.item_catalog.specs.Grammar.{HasFault, Spells}
 use Rattle.item_catalog.proofs.GrammarLemmas.{no_fault, one_deck}
 use Rattle.air_model.specs.Decks.{Deck, disks_in}

@@ -25,7 +25,7 @@ pub mod RightLemmas
 pub mod AgreeLemmas
 pub mod HeadlineLemmas
 pub mod CauseLemmas
-pub mod TapeFronts
+pub mod WholeRecordLemmas
 pub mod ReadSoFar
 pub mod PieceLemmas
 pub mod ReadingLemmas

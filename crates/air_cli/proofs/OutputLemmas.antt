@@ -8,7 +8,7 @@ use Rattle.std.proofs.lemmas.List.{take-append-le, take_all}
 use Rattle.air_devices.specs.Contents.{Contents}
 use Rattle.air_devices.specs.Counts.{Faults, HasCauseIn, KeepsCounts, NoCountFalls, Rose, writing_of}
 use Rattle.air_devices.specs.Shelves.{ShelfState}
-use Rattle.air_devices.specs.Told.{AppendsPart, Becomes}
+use Rattle.air_devices.specs.WhatIsTold.{AppendsPart, Becomes}
 use Rattle.air_devices.specs.Unchanged.{KeepsButOutput, KeepsButPrinted}
 use Rattle.air_cli.specs.Deliveries.{KeepsButDelivered}
 use Rattle.air_cli.specs.OutputPieces.{IsCutOff, IsWritten}

@@ -5,13 +5,13 @@ use Rattle.std.specs.Io.KnownBytes.{Consumes, IsAtEnd, Keeps, prepend_known}
 use Rattle.std.proofs.lemmas.List.{append-nil, drop_at, nil_from_length, take-append-drop}
 use Rattle.std.proofs.lemmas.List.Elements.{All-append, All-nil}
 use Rattle.air_devices.specs.Shelves.{ShelfState}
-use Rattle.air_devices.specs.Told.{ToldIs, WhereTold}
+use Rattle.air_devices.specs.WhatIsTold.{ToldIs, WhereTold}
 use Rattle.air_model.specs.Tapes.{TapeRead, ends_inside, tape_of, tape_read}
 use Rattle.air_model.proofs.TapeLemmas.{AreShort, cut_read}
 use Rattle.air_report.specs.declared.status.Status.{Status}
 use Rattle.air_cli.specs.HeardTapes.{UnheardCause}
 use Rattle.air_cli.specs.Private.Pieces.{AreWholeRecords, HasCome, IsCutBefore, IsRest}
-use Rattle.air_cli.proofs.TapeFronts.{tape_joined}
+use Rattle.air_cli.proofs.WholeRecordLemmas.{tape_joined}
 
 -- The tape of these records and then the piece were read off the front of the file, which may have so many bytes; so many of these are
 -- still to come.

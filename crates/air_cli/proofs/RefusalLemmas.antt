@@ -6,7 +6,7 @@ use Rattle.std.proofs.lemmas.Bool.{cases_lt}
 use Rattle.air_base.specs.declared.limits.TheConstants.{MOST_DECK_BYTES}
 use Rattle.air_devices.specs.Counts.{KeepsCounts, NoCountFalls, Rose}
 use Rattle.air_devices.specs.Unchanged.{KeepsButPrinted}
-use Rattle.air_devices.specs.Told.{AppendsPart, WhereTold}
+use Rattle.air_devices.specs.WhatIsTold.{AppendsPart, WhereTold}
 use Rattle.air_devices.specs.Shelves.{ShelfState}
 use Rattle.air_report.specs.declared.status.Status.{Status}
 use Rattle.air_report.specs.declared.status.Status.TheVariants as status

@@ -5,7 +5,7 @@ use Rattle.std.specs.Io.KnownBytes.{Appends}
 use Rattle.std.proofs.Math.Seq.{take-append_seam}
 use Rattle.air_devices.specs.Counts.{KeepsCounts, NoCountFalls, Rose}
 use Rattle.air_devices.specs.Shelves.{ShelfState}
-use Rattle.air_devices.specs.Told.{AppendsPart, Becomes}
+use Rattle.air_devices.specs.WhatIsTold.{AppendsPart, Becomes}
 use Rattle.air_devices.specs.Unchanged.{KeepsButPrinted}
 use Rattle.air_model.specs.Decks.{Deck}
 use Rattle.air_model.specs.Outputs.{script_output, script_tape}

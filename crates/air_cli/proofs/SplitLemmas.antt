@@ -114,23 +114,23 @@ split_fits deck before now (status.PlanTooLong slots) told suits calm h =
 split_fits deck before now s told suits calm h = let known = told deck refl in deck_fits deck before now s known.0 CanBeSplit known.1 suits calm h
 
 -- The deck's best split is given.
-abbrev Gave : ReportAndTape → Deck → Type 0
-Gave given d = (sizes : List ℕ) × IsBest d sizes × (given ≡ split_given d sizes)
+abbrev GivesBest : ReportAndTape → Deck → Type 0
+GivesBest given d = (sizes : List ℕ) × IsBest d sizes × (given ≡ split_given d sizes)
 
 -- Where the deck's file is told, it is that of the deck that the file spells.
-split_told : (deck : List ℕ) (before : ShelfState) (given : ReportAndTape) → SplitGives deck before given → OfDeck deck before (Gave given)
+split_told : (deck : List ℕ) (before : ShelfState) (given : ReportAndTape) → SplitGives deck before given → OfDeck deck before (GivesBest given)
 unfolding SplitGives
-split_told deck before given (same, (d, spells, made, few, gave)) = of_deck deck before d (Gave given) spells gave
+split_told deck before given (same, (d, spells, made, few, gave)) = of_deck deck before d (GivesBest given) spells gave
 
-gave_one : (d : Deck) (a b : ReportAndTape) → Gave a d → Gave b d → a ≡ b
+gave_one : (d : Deck) (a b : ReportAndTape) → GivesBest a d → GivesBest b d → a ≡ b
 gave_one d a b (sizes, best, is) (others, first, so) = is ∙ ap (split_given d) (one_best d sizes others best first) ∙ sym so
 
 pub split_one : (deck : List ℕ) (before other : ShelfState) (a b : ReportAndTape) → TellSameInputs (split_meaning deck) before other → SplitGives deck before a → SplitGives deck other b → a ≡ b
 split_one deck before other a b same first second =
     let told = same deck refl in
-    let x = deck_told deck before told.0 (Gave a) told.1 (split_told deck before a first) in
-    let y = deck_told deck other told.0 (Gave b) told.2 (split_told deck other b second) in
-    gave_one x.1.0 a b x.1.2 (subst (Gave b) (one_deck told.0 y.1.0 x.1.0 y.1.1 x.1.1) y.1.2)
+    let x = deck_told deck before told.0 (GivesBest a) told.1 (split_told deck before a first) in
+    let y = deck_told deck other told.0 (GivesBest b) told.2 (split_told deck other b second) in
+    gave_one x.1.0 a b x.1.2 (subst (GivesBest b) (one_deck told.0 y.1.0 x.1.0 y.1.1 x.1.1) y.1.2)
 
 pub split_facts : (deck : List ℕ) → CommandFacts (split_meaning deck)
 split_facts deck = record { sound = split_sound deck; inputs = record { fits = λ before now s told suits. split_fits deck before now s told (of_had deck before CanBeSplit suits) } }

@@ -24,7 +24,7 @@ use Rattle.deck_runs.specs.RunTapes.{run_tape_len}
 use Rattle.deck_runs.proofs.HeardRunLemmas.{run_size}
 use Rattle.item_catalog.specs.Fields.{freq_of, spelled_event as part_of}
 use Rattle.item_catalog.specs.Faults.{kinds_at, some_below}
-use Rattle.item_catalog.specs.Grammar.{RowsSpell, Spells}
+use Rattle.item_catalog.specs.Grammar.{RecordsSpell, Spells}
 use Rattle.item_catalog.proofs.GrammarLemmas.{one_deck}
 use Rattle.live_replay.specs.AuditAnswers.{CanBeAudited}
 use Rattle.live_replay.proofs.AuditExamples.{can_be_audited, its_bytes, small, small_is_deck}
@@ -61,7 +61,7 @@ no_kind (suc (suc (suc (suc (suc zero))))) below = refl
 no_kind (suc (suc (suc (suc (suc (suc zero)))))) below = refl
 no_kind (suc (suc (suc (suc (suc (suc (suc place))))))) below = absurd (omega arith)
 
-rows_spell : RowsSpell rows small
+rows_spell : RecordsSpell rows small
 unfolding number_of part_of freq_of all_some
 rows_spell = record { faultless = no_kind; parts = refl }
 

@@ -6,7 +6,7 @@ use Rattle.air_devices.specs.Unchanged.{KeepsButPrinted}
 use Rattle.air_devices.specs.Shelves.{ShelfState}
 use Rattle.air_report.specs.declared.status.Status.{Status}
 use Rattle.air_report.specs.declared.status.Status.TheVariants as status
-use Rattle.air_devices.specs.Told.{ToldIs, WhereTold}
+use Rattle.air_devices.specs.WhatIsTold.{ToldIs, WhereTold}
 use Rattle.air_model.specs.declared.reports.CountsLine.{CountsLine}
 use Rattle.air_model.specs.declared.reports.VerdictLine.{VerdictLine}
 use Rattle.air_model.specs.Aired.{scheme_in}

@@ -4,7 +4,7 @@ use Rattle.std.specs.Io.KnownBytes.{Appends}
 use Rattle.air_devices.specs.Contents.{Contents}
 use Rattle.air_devices.specs.Counts.{KeepsCounts, Rose}
 use Rattle.air_devices.specs.Shelves.{ShelfState}
-use Rattle.air_devices.specs.Told.{AppendsPart}
+use Rattle.air_devices.specs.WhatIsTold.{AppendsPart}
 use Rattle.air_report.specs.declared.status.Status.{Status}
 use Rattle.air_report.specs.declared.status.Status.TheVariants as status
 use Rattle.air_cli.specs.ReportsAndTapes.{ReportAndTape}

@@ -8,7 +8,7 @@ use Rattle.air_base.specs.declared.verdicts.VerdictKind.TheVariants.{Accept}
 use Rattle.air_devices.specs.Ears.{EarState}
 use Rattle.air_devices.specs.Masts.{MastState}
 use Rattle.air_devices.specs.Shelves.{ShelfState}
-use Rattle.air_devices.specs.Told.{WhereTold}
+use Rattle.air_devices.specs.WhatIsTold.{WhereTold}
 use Rattle.air_history.specs.declared.histories.Event.{Event}
 use Rattle.air_history.specs.ClashLaws.{SharesItsCycle}
 use Rattle.air_history.specs.Consistency.{alone, IsConsistent}

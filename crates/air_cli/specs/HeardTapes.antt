@@ -1,6 +1,6 @@
 -- What a deck's readers heard of a named tape, and why it couldn't be heard.
 use Rattle.std.specs.Prelude.{◌≡◌, ◌≤◌, ℕ, List, Some, None, length}
-use Rattle.air_devices.specs.Told.{ToldIs}
+use Rattle.air_devices.specs.WhatIsTold.{ToldIs}
 use Rattle.air_devices.specs.Shelves.{ShelfState}
 use Rattle.air_model.specs.Aired.{scheme_in}
 use Rattle.air_model.specs.Decks.{Deck}

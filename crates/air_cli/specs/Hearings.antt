@@ -9,7 +9,7 @@ use Rattle.air_model.specs.declared.reports.CountsLine.{CountsLine}
 use Rattle.air_model.specs.declared.reports.VerdictLine.{VerdictLine}
 use Rattle.air_devices.specs.Counts.{Rose}
 use Rattle.air_devices.specs.Ears.{EarState}
-use Rattle.air_devices.specs.Told.{WhereTold}
+use Rattle.air_devices.specs.WhatIsTold.{WhereTold}
 use Rattle.air_cli.specs.declared.commands.hearings.HearFault.{HearFault}
 use Rattle.air_cli.specs.declared.commands.hearings.HearFault.TheVariants as fault
 use Rattle.air_cli.specs.declared.commands.hearings.TheConstants.{MOST_HEARD_BYTES}

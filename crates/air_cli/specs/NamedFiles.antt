@@ -4,7 +4,7 @@ use Rattle.std.specs.Io.KnownBytes.{IsAtEnd}
 use Rattle.air_devices.specs.Counts.{KeepsCounts, NoCountFalls, Rose}
 use Rattle.air_devices.specs.Unchanged.{KeepsButLeft}
 use Rattle.air_devices.specs.Reading.{IsTooLarge}
-use Rattle.air_devices.specs.Told.{ToldIs}
+use Rattle.air_devices.specs.WhatIsTold.{ToldIs}
 use Rattle.air_devices.specs.Shelves.{ShelfState}
 use Rattle.air_report.specs.declared.status.Status.{Status}
 use Rattle.air_report.specs.declared.status.Status.TheVariants as status

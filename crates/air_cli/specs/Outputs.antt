@@ -3,7 +3,7 @@
 use Rattle.std.specs.Prelude.{◌≡◌, ℕ, ◌⊎◌, List, Option, Some, None, take, ⊤}
 use Rattle.air_devices.specs.Counts.{Rose}
 use Rattle.air_devices.specs.Shelves.{ShelfState}
-use Rattle.air_devices.specs.Told.{Becomes}
+use Rattle.air_devices.specs.WhatIsTold.{Becomes}
 
 -- The output of this name, if one is named, holds just these bytes.
 abbrev pub OutputHolds : Option (List ℕ) → List ℕ → ShelfState → ShelfState → Type 0

@@ -1,7 +1,7 @@
 //! Named files, read whole or refused with the status that says why.
 
 ghost use Rattle.std.specs.Prelude.{◌≤◌, length, IfErr, IfOk};
-ghost use Rattle.air_devices.specs.Told.{ToldIs};
+ghost use Rattle.air_devices.specs.WhatIsTold.{ToldIs};
 ghost use Rattle.air_cli.specs.NamedFiles.{ReadsInput, UnreadCause};
 
 pub(crate) mod decks;

@@ -5,7 +5,7 @@
 
 ghost use Rattle.std.specs.Prelude.{◌≡◌, map, string_bytes, None, Some};
 ghost use Rattle.air_devices.specs.Masts.{nothing_sent};
-ghost use Rattle.air_devices.specs.Told.{WhereTold};
+ghost use Rattle.air_devices.specs.WhatIsTold.{WhereTold};
 ghost use Rattle.air_cli.specs.Answers.{Completes, IsSuccess, Leaves, QuietAnswers};
 ghost use Rattle.air_cli.specs.Cast.{cast_meaning};
 ghost use Rattle.air_cli.specs.Headline.{Headline};

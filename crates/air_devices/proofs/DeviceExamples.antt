@@ -5,7 +5,7 @@ use Rattle.air_devices.specs.Contents.{Contents, nothing_told}
 use Rattle.air_devices.specs.Counts.{Faults, KeepsCounts, NoCountFalls, Rose, one_count}
 use Rattle.air_devices.specs.Masts.{Changes, SentBuckets, fresh_mast, nothing_sent, with_buckets, with_end}
 use Rattle.air_devices.specs.Reading.{IsTooLarge}
-use Rattle.air_devices.specs.Told.{AppendsPart, Becomes, ToldIs, WhereTold}
+use Rattle.air_devices.specs.WhatIsTold.{AppendsPart, Becomes, ToldIs, WhereTold}
 
 -- ---- counts
 

@@ -2,7 +2,7 @@ pub mod Contents
 pub mod Counts
 pub mod Shelves
 pub mod Unchanged
-pub mod Told
+pub mod WhatIsTold
 pub mod Reading
 pub mod Calls
 pub mod Memory

@@ -1,7 +1,7 @@
 -- What a call that reads a whole file says of one that is too large.
 use Rattle.std.specs.Prelude.{◌≡◌, ◌<◌, ◌+◌, ℕ, List, Some, drop, length}
 use Rattle.air_devices.specs.Contents.{Contents}
-use Rattle.air_devices.specs.Told.{WhereTold}
+use Rattle.air_devices.specs.WhatIsTold.{WhereTold}
 
 -- The named file, where it is told, has more bytes than the limit, and was read up to the limit plus one byte.
 abbrev pub IsTooLarge : ℕ → List ℕ → Contents → Contents → Type 0

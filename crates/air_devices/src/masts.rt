@@ -7,7 +7,7 @@ ghost use Rattle.std.specs.Prelude.{◌≡◌, ◌≤◌, [], ◌∷◌, length,
 ghost use Rattle.air_base.specs.declared.limits.TheConstants.{MOST_DATAGRAM_BYTES};
 ghost use Rattle.air_devices.specs.Counts.{HasCause};
 ghost use Rattle.air_devices.specs.Masts.{Changes, MastState, nothing_sent, with_buckets, with_end};
-ghost use Rattle.air_devices.specs.Told.{WhereTold};
+ghost use Rattle.air_devices.specs.WhatIsTold.{WhereTold};
 
 use crate::shelves::Failed;
 

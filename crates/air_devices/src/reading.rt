@@ -7,7 +7,7 @@ ghost use Rattle.std.specs.Prelude.{◌≡◌, ◌≢◌, ◌<◌, ◌≤◌, �
 ghost use Rattle.std.specs.Io.KnownBytes.{IsAtEnd, Keeps, prepend_known};
 ghost use Rattle.air_devices.specs.Counts.{KeepsCounts, NoCountFalls, Rose};
 ghost use Rattle.air_devices.specs.Unchanged.{KeepsButLeft};
-ghost use Rattle.air_devices.specs.Told.{ToldIs};
+ghost use Rattle.air_devices.specs.WhatIsTold.{ToldIs};
 ghost use Rattle.air_devices.specs.Reading.{IsTooLarge};
 
 pub(crate) mod read_files;

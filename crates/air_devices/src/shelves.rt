@@ -8,7 +8,7 @@ ghost use Rattle.std.specs.Io.{ReadsAtMost};
 ghost use Rattle.std.specs.Io.KnownBytes.{Appends, ReadConsumes};
 ghost use Rattle.air_devices.specs.Counts.{HasCauseIn, printing_of, reading_of, writing_of};
 ghost use Rattle.air_devices.specs.Unchanged.{KeepsButLeft, KeepsButOutput, KeepsButPrinted};
-ghost use Rattle.air_devices.specs.Told.{AppendsPart, Becomes};
+ghost use Rattle.air_devices.specs.WhatIsTold.{AppendsPart, Becomes};
 ghost use Rattle.air_devices.specs.Shelves.{ShelfState};
 
 use std::error::Error;

@@ -2,5 +2,5 @@ pub mod PushWords
 pub mod KeptPushes
 pub mod HeardPositions
 pub mod HeardSoFar
-pub mod EtherView
+pub mod EtherFields
 pub mod LentBuckets

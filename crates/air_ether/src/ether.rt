@@ -51,7 +51,7 @@ impl Model for Ether {
 
     ghost Value = { Ether };
 
-    ghost use Rattle.air_ether.specs.EtherView.{IsEther, ether_in};
+    ghost use Rattle.air_ether.specs.EtherFields.{IsEther, ether_in};
 
     ghost view = { ether_in };
 

@@ -9,7 +9,7 @@ use Rattle.air_history.specs.Histories.{is_start, writes, cycle_at, front, write
 use Rattle.air_history.specs.Columns.{vector_entry, scheme_of}
 use Rattle.air_history.specs.Reads.{oldest_cycle, stale}
 use Rattle.air_history.specs.Ages.{capped, span, spans_too_far}
-use Rattle.air_history.specs.Clashes.{Heard, entry_of, least, clash_by_history, clash_by_entries}
+use Rattle.air_history.specs.Clashes.{HeardRead, entry_of, least, clash_by_history, clash_by_entries}
 use Rattle.air_history.specs.ClashLaws.{HasCappedEntries, HaveAiredEntries, aired_entry}
 use Rattle.air_history.proofs.HistoryExamples.{commit, set_to}
 use Rattle.air_history.proofs.ClashExamples.{at}
@@ -60,15 +60,15 @@ abbrev written_once : List Event
 written_once = Start ∷ commit 0 [] (set_to 0 11) ∷ replicate 255 Start
 
 -- A read of an item in a cycle, with the entries of both items.
-abbrev of_two : ℕ → ℕ → ℕ → ℕ → Heard
+abbrev of_two : ℕ → ℕ → ℕ → ℕ → HeardRead
 of_two i c a b = record { item = i; cycle = c; entries = a ∷ b ∷ [] }
 
 -- The read may be heard so under Datacycle.
-abbrev MayBeHeard : Heard → Type 0
+abbrev MayBeHeard : HeardRead → Type 0
 MayBeHeard r = HasCappedEntries (scheme_of Datacycle) 2 written_once r
 
 -- Item 0 is held, and item 1 is new.
-abbrev AreAired : Heard → Heard → Type 0
+abbrev AreAired : HeardRead → HeardRead → Type 0
 AreAired r x = HaveAiredEntries (scheme_of Datacycle) 2 written_once (r ∷ []) x
 
 pub record Old : Type 0 where
@@ -94,7 +94,7 @@ each_of_two P p q (suc zero) l = q
 each_of_two P p q (suc (suc k)) l = absurd (omega arith)
 
 -- The entry of an item is the aired one, or what an age tells of it.
-abbrev IsTold : Heard → ℕ → Type 0
+abbrev IsTold : HeardRead → ℕ → Type 0
 IsTold r i = (entry_of r i ≡ aired_entry (scheme_of Datacycle) 2 written_once r i) ⊎ (entry_of r i ≡ capped (aired_entry (scheme_of Datacycle) 2 written_once r i) r.cycle)
 
 may_be : (i c a b : ℕ) → 1 ≤ c → i < 2 → IsTold (of_two i c a b) 0 → IsTold (of_two i c a b) 1 → MayBeHeard (of_two i c a b)

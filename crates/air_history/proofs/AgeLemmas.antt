@@ -13,7 +13,7 @@ use Rattle.air_history.specs.Histories.{front}
 use Rattle.air_history.specs.Columns.{Scheme, policy_entries, column_entry, vector_entry}
 use Rattle.air_history.specs.Reads.{ReadAt, newest_cycle, oldest_cycle}
 use Rattle.air_history.specs.Ages.{capped, span, spans_too_far}
-use Rattle.air_history.specs.Clashes.{Heard, read_at, entry_of, newest_heard}
+use Rattle.air_history.specs.Clashes.{HeardRead, read_at, entry_of, newest_heard}
 use Rattle.air_history.specs.ClashLaws.{HasAiredEntries, HasCappedEntries, HaveAiredEntries, aired_entry}
 
 -- ---- one entry
@@ -76,19 +76,19 @@ oldest_at_most c [] = omega arith
 oldest_at_most c (r ∷ R) = let rest = oldest_at_most (min c r.cycle) R in omega arith
 
 -- No read is newer than the newest.
-pub newest_at_least : (R : List Heard) → All (λ r. r.cycle ≤ newest_heard R) R
+pub newest_at_least : (R : List HeardRead) → All (λ r. r.cycle ≤ newest_heard R) R
 newest_at_least [] k d l = absurd (omega arith)
 newest_at_least (r ∷ R) zero d l = omega arith
 newest_at_least (r ∷ R) (suc k) d l = let rest = newest_at_least R k d (omega arith) in omega arith
 
 -- None is older than the oldest.
-oldest_of_each : (c : ℕ) (R : List Heard) → All (λ r. oldest_with c (map read_at R) ≤ r.cycle) R
+oldest_of_each : (c : ℕ) (R : List HeardRead) → All (λ r. oldest_with c (map read_at R) ≤ r.cycle) R
 oldest_of_each c [] k d l = absurd (omega arith)
 oldest_of_each c (r ∷ R) zero d l = let rest = oldest_at_most (min c r.cycle) (map read_at R) in omega arith
 oldest_of_each c (r ∷ R) (suc k) d l = oldest_of_each (min c r.cycle) R k d (omega arith)
 
 -- Where the held reads and the new one don't lie too far apart, neither does each of them and the new one.
-pub near_new : (R : List Heard) (x : Heard) → spans_too_far (map read_at R ++ read_at x ∷ []) ≡ false → All (λ r. (r.cycle - x.cycle < AGE_CAP) × (x.cycle - r.cycle < AGE_CAP)) R
+pub near_new : (R : List HeardRead) (x : HeardRead) → spans_too_far (map read_at R ++ read_at x ∷ []) ≡ false → All (λ r. (r.cycle - x.cycle < AGE_CAP) × (x.cycle - r.cycle < AGE_CAP)) R
 unfolding spans_too_far
 near_new R x close k d l =
     let S = map read_at R in
@@ -102,27 +102,27 @@ near_new R x close k d l =
 -- ---- all entries of a read
 
 -- Against the cycle d each entry of the read answers as the one that H airs with it.
-abbrev pub Answers : Scheme → ℕ → List Event → ℕ → Heard → Type 0
+abbrev pub Answers : Scheme → ℕ → List Event → ℕ → HeardRead → Type 0
 Answers scheme n H d r = (i : ℕ) → i < n → nat_le d (entry_of r i) ≡ nat_le d (aired_entry scheme n H r i)
 
 -- The held read r and the new read x answer so against each other's cycles.
-pub record IsAnswered (scheme : Scheme) (n : ℕ) (H : List Event) (x r : Heard) : Type 0 where
+pub record IsAnswered (scheme : Scheme) (n : ℕ) (H : List Event) (x r : HeardRead) : Type 0 where
   pub cycle : 1 ≤ r.cycle
   pub within : r.item < n
   pub by_held : Answers scheme n H x.cycle r
   pub by_new : Answers scheme n H r.cycle x
 
-in_full : (scheme : Scheme) (n : ℕ) (H : List Event) (r : Heard) → HasAiredEntries scheme n H r → (d : ℕ) → Answers scheme n H d r
+in_full : (scheme : Scheme) (n : ℕ) (H : List Event) (r : HeardRead) → HasAiredEntries scheme n H r → (d : ℕ) → Answers scheme n H d r
 in_full scheme n H r is d i l = ap (λ es. nat_le d (get_or es i 0)) is.entries
 
-by_age : (scheme : Scheme) (n : ℕ) (H : List Event) (r : Heard) → HasCappedEntries scheme n H r → (d : ℕ) → 1 ≤ d → r.cycle - d < AGE_CAP → Answers scheme n H d r
+by_age : (scheme : Scheme) (n : ℕ) (H : List Event) (r : HeardRead) → HasCappedEntries scheme n H r → (d : ℕ) → 1 ≤ d → r.cycle - d < AGE_CAP → Answers scheme n H d r
 by_age scheme n H r is d pos near i l = elim (is.entries i l) as (λ _. nat_le d (entry_of r i) ≡ nat_le d (aired_entry scheme n H r i)) [
   | inl same ↦ ap (nat_le d) same
   | inr cap ↦ ap (nat_le d) cap ∙ cap_hidden (aired_entry scheme n H r i) r.cycle d pos near
 ]
 
 -- Reads that have what H airs answer as the history.
-pub answered : (scheme : Scheme) (n : ℕ) (H : List Event) (R : List Heard) (x : Heard) → HaveAiredEntries scheme n H R x → All (IsAnswered scheme n H x) R
+pub answered : (scheme : Scheme) (n : ℕ) (H : List Event) (R : List HeardRead) (x : HeardRead) → HaveAiredEntries scheme n H R x → All (IsAnswered scheme n H x) R
 answered scheme n H R x (inl full) k d l = let r = get_or R k d in record {
   cycle = (full.0 k d l).cycle;
   within = (full.0 k d l).within;
@@ -137,11 +137,11 @@ answered scheme n H R x (inr aged) k d l = let r = get_or R k d in let near = ne
 }
 
 -- And the new read is of a cycle from 1 on, and of one of the items.
-pub new_cycle : (scheme : Scheme) (n : ℕ) (H : List Event) (R : List Heard) (x : Heard) → HaveAiredEntries scheme n H R x → 1 ≤ x.cycle
+pub new_cycle : (scheme : Scheme) (n : ℕ) (H : List Event) (R : List HeardRead) (x : HeardRead) → HaveAiredEntries scheme n H R x → 1 ≤ x.cycle
 new_cycle scheme n H R x (inl full) = full.1.cycle
 new_cycle scheme n H R x (inr aged) = aged.1.cycle
 
-pub new_within : (scheme : Scheme) (n : ℕ) (H : List Event) (R : List Heard) (x : Heard) → HaveAiredEntries scheme n H R x → x.item < n
+pub new_within : (scheme : Scheme) (n : ℕ) (H : List Event) (R : List HeardRead) (x : HeardRead) → HaveAiredEntries scheme n H R x → x.item < n
 new_within scheme n H R x (inl full) = full.1.within
 new_within scheme n H R x (inr aged) = aged.1.within
 
@@ -152,7 +152,7 @@ aired_length FMatrix n H c j = length-map-range_with_len (column_entry (front H 
 aired_length Datacycle n H c j = length-map-range_with_len (vector_entry (front H c)) 0 n
 aired_length RMatrix n H c j = length-map-range_with_len (vector_entry (front H c)) 0 n
 
-pub full_is_capped : (scheme : Scheme) (n : ℕ) (H : List Event) (r : Heard) → HasAiredEntries scheme n H r → HasCappedEntries scheme n H r
+pub full_is_capped : (scheme : Scheme) (n : ℕ) (H : List Event) (r : HeardRead) → HasAiredEntries scheme n H r → HasCappedEntries scheme n H r
 full_is_capped scheme n H r is = record {
   cycle = is.cycle;
   within = is.within;
@@ -161,7 +161,7 @@ full_is_capped scheme n H r is = record {
 }
 
 -- Where what H airs with the read is below a number, so are the entries as ages tell them.
-pub capped_below : (scheme : Scheme) (n : ℕ) (H : List Event) (r : Heard) (k : ℕ) → HasCappedEntries scheme n H r → ((i : ℕ) → i < n → aired_entry scheme n H r i < k) → All (λ e. e < k) r.entries
+pub capped_below : (scheme : Scheme) (n : ℕ) (H : List Event) (r : HeardRead) (k : ℕ) → HasCappedEntries scheme n H r → ((i : ℕ) → i < n → aired_entry scheme n H r i < k) → All (λ e. e < k) r.entries
 capped_below scheme n H r k is below = All-from_get_or (λ e. e < k) r.entries 0 (λ i l.
     let within : i < n = omega (arith, is.sized) in
     elim (is.entries i within) as (λ _. entry_of r i < k) [

@@ -12,7 +12,7 @@ use Rattle.air_history.specs.Columns.{column_entry, vector_entry, policy_entries
 use Rattle.air_history.specs.Tables.{value_on_base, write_of, value_after, table}
 use Rattle.air_history.specs.Reads.{ReadAt, origin, stale, read_value}
 use Rattle.air_history.specs.Consistency.{descends_from, runs_alone, picked_events, alone, last_alone, consistent}
-use Rattle.air_history.specs.Clashes.{least, is_late, clash_by_history, Heard, clash_by_entries}
+use Rattle.air_history.specs.Clashes.{least, is_late, clash_by_history, HeardRead, clash_by_entries}
 use Rattle.air_history.specs.ClashLaws.{current_cycle}
 use Rattle.air_history.proofs.HistoryExamples.{set_to, add_to, commit, chain_history, then_blind, tens}
 
@@ -20,15 +20,15 @@ abbrev pub at : ℕ → ℕ → ReadAt
 at i c = record { item = i; cycle = c }
 
 -- The read as a receiver hears it.
-abbrev pub heard_of_two : Policy → List Event → ℕ → ℕ → Heard
+abbrev pub heard_of_two : Policy → List Event → ℕ → ℕ → HeardRead
 heard_of_two policy H i c = record { item = i; cycle = c; entries = policy_entries policy 2 H c i }
 
 -- The same of a read, over three items.
-abbrev heard_at : Policy → List Event → ReadAt → Heard
+abbrev heard_at : Policy → List Event → ReadAt → HeardRead
 heard_at policy H r = record { item = r.item; cycle = r.cycle; entries = policy_entries policy 3 H r.cycle r.item }
 
 -- A heard read over four items.
-abbrev of_four : ℕ → ℕ → List ℕ → Heard
+abbrev of_four : ℕ → ℕ → List ℕ → HeardRead
 of_four i c entries = record { item = i; cycle = c; entries = entries }
 
 -- Both items are written in cycle 1, by updates that read nothing.

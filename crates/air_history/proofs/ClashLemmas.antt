@@ -12,7 +12,7 @@ use Rattle.air_history.specs.Histories.{front}
 use Rattle.air_history.specs.Columns.{Scheme, scheme_of, column_entry, vector, vector_entry, entry_at}
 use Rattle.air_history.specs.Reads.{ReadAt, stale, same_origin}
 use Rattle.air_history.specs.Consistency.{consistent}
-use Rattle.air_history.specs.Clashes.{least, named_clash, clash_by_history, Heard, read_at, entry_of, entry_in, newest_heard, clash_by_entries}
+use Rattle.air_history.specs.Clashes.{least, named_clash, clash_by_history, HeardRead, read_at, entry_of, entry_in, newest_heard, clash_by_entries}
 use Rattle.air_history.specs.ClashLaws.{HasAiredEntries, HaveAiredEntries, IsAllowed, aired_entry}
 use Rattle.air_history.proofs.StaleLemmas.{pair_test, stale_is, origin_told}
 use Rattle.air_history.proofs.NamedLemmas.{clash_heard}
@@ -25,7 +25,7 @@ cond_same false x x' y y' f g = g refl
 
 -- ---- cycles of held reads
 
-newest_below : (R : List Heard) (c : ℕ) → 0 < c → All (λ r. r.cycle < c) R → newest_heard R < c
+newest_below : (R : List HeardRead) (c : ℕ) → 0 < c → All (λ r. r.cycle < c) R → newest_heard R < c
 newest_below [] c pos h = pos
 newest_below (r ∷ R) c pos h =
     let here : r.cycle < c = All-head (λ r. r.cycle < c) r R h in
@@ -33,7 +33,7 @@ newest_below (r ∷ R) c pos h =
     omega arith
 
 -- Some held read has the newest cycle.
-newest_there : (R : List Heard) → 0 < newest_heard R → All (λ r. (r.cycle == newest_heard R) ≡ false) R → ⊥
+newest_there : (R : List HeardRead) → 0 < newest_heard R → All (λ r. (r.cycle == newest_heard R) ≡ false) R → ⊥
 newest_there R pos none =
     let all : newest_heard R < newest_heard R = newest_below R (newest_heard R) pos (λ k d l.
     let le = newest_at_least R k d l in
@@ -52,14 +52,14 @@ never_later S y order k d l =
 -- ---- entries that answer as the history's
 
 -- What H airs, entry by entry.
-pub aired_column : (n : ℕ) (H : List Event) (x : Heard) (i : ℕ) → i < n → aired_entry (scheme_of FMatrix) n H x i ≡ column_entry (front H x.cycle) x.item i
+pub aired_column : (n : ℕ) (H : List Event) (x : HeardRead) (i : ℕ) → i < n → aired_entry (scheme_of FMatrix) n H x i ≡ column_entry (front H x.cycle) x.item i
 aired_column n H x i l = get_or-map-range_with_len (column_entry (front H x.cycle) x.item) 0 n i i 0 l (omega arith)
 
 pub vector_at : (n : ℕ) (H : List Event) (c i : ℕ) → i < n → get_or (vector n (front H c)) i 0 ≡ vector_entry (front H c) i
 vector_at n H c i l = get_or-map-range_with_len (vector_entry (front H c)) 0 n i i 0 l (omega arith)
 
 -- The entry that came with the first held read of a cycle answers as the vector's at that cycle.
-entry_in_is : (n : ℕ) (H : List Event) (x : Heard) (m : ℕ) → x.item < n → (R : List Heard) → All (IsAnswered (scheme_of Datacycle) n H x) R →
+entry_in_is : (n : ℕ) (H : List Event) (x : HeardRead) (m : ℕ) → x.item < n → (R : List HeardRead) → All (IsAnswered (scheme_of Datacycle) n H x) R →
     (All (λ r. (r.cycle == m) ≡ false) R → ⊥) → nat_le x.cycle (entry_in R m x.item) ≡ nat_le x.cycle (vector_entry (front H m) x.item)
 entry_in_is n H x m item [] h there = absurd (there (λ k d l. absurd (omega arith)))
 entry_in_is n H x m item (r ∷ R) h there = by (r.cycle == m) refl (entry_in_is n H x m item R (All-tail (IsAnswered (scheme_of Datacycle) n H x) r R h))
@@ -75,7 +75,7 @@ entry_in_is n H x m item (r ∷ R) h there = by (r.cycle == m) refl (entry_in_is
 
 -- ---- each policy
 
-f_matrix : (n : ℕ) (H : List Event) (R : List Heard) (x : Heard) → 1 ≤ x.cycle → x.item < n → All (IsAnswered (scheme_of FMatrix) n H x) R →
+f_matrix : (n : ℕ) (H : List Event) (R : List HeardRead) (x : HeardRead) → 1 ≤ x.cycle → x.item < n → All (IsAnswered (scheme_of FMatrix) n H x) R →
     clash_by_history FMatrix H (map read_at R) (read_at x) ≡ clash_by_entries FMatrix R x
 unfolding clash_by_history clash_by_entries
 f_matrix n H R x pos item are = clash_heard (λ s. not (consistent H (s ∷ read_at x ∷ []))) (λ s. nat_le s.cycle (entry_of x s.item) || nat_le x.cycle (entry_of s x.item)) R (λ k d l.
@@ -86,7 +86,7 @@ f_matrix n H R x pos item are = clash_heard (λ s. not (consistent H (s ∷ read
     ∙ ap (λ b. nat_le r.cycle (entry_of x r.item) || b) (sym (h.by_held x.item item ∙ ap (nat_le x.cycle) (aired_column n H r x.item item))))
 
 -- A held read is stale at the new cycle exactly if the new vector says so.
-stale_told : (n : ℕ) (H : List Event) (r x : Heard) → 1 ≤ r.cycle → r.cycle ≤ x.cycle → r.item < n →
+stale_told : (n : ℕ) (H : List Event) (r x : HeardRead) → 1 ≤ r.cycle → r.cycle ≤ x.cycle → r.item < n →
     nat_le r.cycle (entry_of x r.item) ≡ nat_le r.cycle (get_or (vector n (front H x.cycle)) r.item 0) → stale H (read_at r) x.cycle ≡ nat_le r.cycle (entry_of x r.item)
 stale_told n H r x pos le within told = stale_is H (read_at r) x.cycle pos le ∙ ap (nat_le r.cycle) (sym (vector_at n H x.cycle r.item within)) ∙ sym told
 
@@ -97,7 +97,7 @@ turned true false z e = refl
 turned false true z e = refl
 turned false false z e = cc
 
-datacycle : (n : ℕ) (H : List Event) (R : List Heard) (x : Heard) → 1 ≤ x.cycle → x.item < n → All (IsAnswered (scheme_of Datacycle) n H x) R →
+datacycle : (n : ℕ) (H : List Event) (R : List HeardRead) (x : HeardRead) → 1 ≤ x.cycle → x.item < n → All (IsAnswered (scheme_of Datacycle) n H x) R →
     clash_by_history Datacycle H (map read_at R) (read_at x) ≡ clash_by_entries Datacycle R x
 unfolding clash_by_history clash_by_entries
 datacycle n H R x pos item are = cond_same (nat_le (newest_heard R) x.cycle) _ _ _ _
@@ -115,11 +115,11 @@ cond_none : (b : Bool) (z : Option Clash) → cond b z z ≡ z
 cond_none true z = refl
 cond_none false z = refl
 
-r_matrix_of_none : (H : List Event) (x : Heard) → clash_by_history RMatrix H [] (read_at x) ≡ clash_by_entries RMatrix [] x
+r_matrix_of_none : (H : List Event) (x : HeardRead) → clash_by_history RMatrix H [] (read_at x) ≡ clash_by_entries RMatrix [] x
 unfolding clash_by_history clash_by_entries least
 r_matrix_of_none H x = cond_none (same_origin H x.item x.cycle 0) None ∙ sym (cond_none (nat_le 0 (entry_of x x.item)) None)
 
-r_matrix : (n : ℕ) (H : List Event) (R : List Heard) (x : Heard) → x.item < n → All (IsAnswered (scheme_of RMatrix) n H x) R →
+r_matrix : (n : ℕ) (H : List Event) (R : List HeardRead) (x : HeardRead) → x.item < n → All (IsAnswered (scheme_of RMatrix) n H x) R →
     AllPairs (λ r s. r.cycle ≤ s.cycle) (map read_at R ++ read_at x ∷ []) →
     clash_by_history RMatrix H (map read_at R) (read_at x) ≡ clash_by_entries RMatrix R x
 unfolding clash_by_history clash_by_entries
@@ -139,21 +139,21 @@ r_matrix n H (r ∷ R) x item are order =
     stale_told n H (get_or (r ∷ R) k d) x (are k d l).cycle (subst (λ (s : ReadAt). s.cycle ≤ x.cycle) at le) (are k d l).within
     ((are k d l).by_new (get_or (r ∷ R) k d).item (are k d l).within)))
 
-by_policy : (policy : Policy) (n : ℕ) (H : List Event) (R : List Heard) (x : Heard) → 1 ≤ x.cycle → x.item < n →
+by_policy : (policy : Policy) (n : ℕ) (H : List Event) (R : List HeardRead) (x : HeardRead) → 1 ≤ x.cycle → x.item < n →
     All (IsAnswered (scheme_of policy) n H x) R → IsAllowed policy (map read_at R ++ read_at x ∷ []) →
     clash_by_history policy H (map read_at R) (read_at x) ≡ clash_by_entries policy R x
 by_policy FMatrix n H R x pos item are order = f_matrix n H R x pos item are
 by_policy Datacycle n H R x pos item are order = datacycle n H R x pos item are
 by_policy RMatrix n H R x pos item are order = r_matrix n H R x item are order
 
-pub clash_told : (scheme : Scheme) (n : ℕ) (H : List Event) (R : List Heard) (x : Heard) →
+pub clash_told : (scheme : Scheme) (n : ℕ) (H : List Event) (R : List HeardRead) (x : HeardRead) →
     HaveAiredEntries scheme n H R x → IsAllowed scheme.policy (map read_at R ++ read_at x ∷ []) →
     clash_by_history scheme.policy H (map read_at R) (read_at x) ≡ clash_by_entries scheme.policy R x
 clash_told scheme n H R x are order =
     by_policy scheme.policy n H R x (new_cycle scheme n H R x are) (new_within scheme n H R x are) (answered scheme n H R x are) order
 
 -- The same of entries in full.
-pub clash : (scheme : Scheme) (n : ℕ) (H : List Event) (R : List Heard) (x : Heard) →
+pub clash : (scheme : Scheme) (n : ℕ) (H : List Event) (R : List HeardRead) (x : HeardRead) →
     All (HasAiredEntries scheme n H) R → HasAiredEntries scheme n H x → IsAllowed scheme.policy (map read_at R ++ read_at x ∷ []) →
     clash_by_history scheme.policy H (map read_at R) (read_at x) ≡ clash_by_entries scheme.policy R x
 clash scheme n H R x held new order = clash_told scheme n H R x (inl (held, new)) order

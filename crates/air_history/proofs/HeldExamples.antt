@@ -4,7 +4,7 @@ use Rattle.std.proofs.lemmas.List.Elements.{All-from_recursion}
 use Rattle.air_history.specs.Places.{last_place}
 use Rattle.air_history.specs.Histories.{writes, front, writer_before, writer}
 use Rattle.air_history.specs.Reads.{same_origin}
-use Rattle.air_history.specs.Clashes.{Heard}
+use Rattle.air_history.specs.Clashes.{HeardRead}
 use Rattle.air_history.specs.HeldReads.{HeldReads, IsNew, ComesInOrder}
 use Rattle.air_history.proofs.ClashExamples.{one_written}
 
@@ -17,11 +17,11 @@ abbrev two_held : ℕ → ℕ → HeldReads
 two_held first last = record { n = 3; reads = record { item = 0; cycle = first; entries = 0 ∷ 0 ∷ 0 ∷ [] } ∷ record { item = 1; cycle = last; entries = 0 ∷ 0 ∷ 0 ∷ [] } ∷ [] }
 
 -- Item 2 of three in cycle 2.
-abbrev item_two : Heard
+abbrev item_two : HeardRead
 item_two = record { item = 2; cycle = 2; entries = 0 ∷ 0 ∷ 0 ∷ [] }
 
 -- Item 1 with these entries.
-abbrev item_one : ℕ → List ℕ → Heard
+abbrev item_one : ℕ → List ℕ → HeardRead
 item_one cycle entries = record { item = 1; cycle = cycle; entries = entries }
 
 pub record New : Type 0 where

@@ -5,7 +5,7 @@ use Rattle.std.proofs.lemmas.Bool.{cases_Bool, both_ways, cond-true, cond-false}
 use Rattle.std.proofs.lemmas.List.Elements.{All-head, All-tail, All-cons}
 use Rattle.air_base.specs.declared.verdicts.Clash.{Clash}
 use Rattle.air_history.specs.Reads.{ReadAt}
-use Rattle.air_history.specs.Clashes.{lesser, least, named_clash, Heard, read_at, heard_clash}
+use Rattle.air_history.specs.Clashes.{lesser, least, named_clash, HeardRead, read_at, heard_clash}
 
 lesser_some : (r : ReadAt) (o : Option Clash) → lesser r o ≡ None → ⊥
 lesser_some r None e = cc
@@ -40,7 +40,7 @@ named_none f (r ∷ R) h = by (f r) (All-head (λ r. f r ≡ false) r R h) (name
     by false h rest = rest
 
 -- A test on reads and one on heard reads that agree name the same reads.
-pub named_heard : (s : ReadAt → Bool) (t : Heard → Bool) (R : List Heard) → All (λ r. s (read_at r) ≡ t r) R → filter s (map read_at R) ≡ map read_at (filter t R)
+pub named_heard : (s : ReadAt → Bool) (t : HeardRead → Bool) (R : List HeardRead) → All (λ r. s (read_at r) ≡ t r) R → filter s (map read_at R) ≡ map read_at (filter t R)
 named_heard s t [] h = refl
 named_heard s t (r ∷ R) h =
     by (s (read_at r)) (t r) (All-head (λ r. s (read_at r) ≡ t r) r R h) (named_heard s t R (All-tail (λ r. s (read_at r) ≡ t r) r R h))
@@ -52,5 +52,5 @@ named_heard s t (r ∷ R) h =
     by false true e rest = cc
     by false false e rest = rest
 
-pub clash_heard : (s : ReadAt → Bool) (t : Heard → Bool) (R : List Heard) → All (λ r. s (read_at r) ≡ t r) R → named_clash s (map read_at R) ≡ heard_clash t R
+pub clash_heard : (s : ReadAt → Bool) (t : HeardRead → Bool) (R : List HeardRead) → All (λ r. s (read_at r) ≡ t r) R → named_clash s (map read_at R) ≡ heard_clash t R
 clash_heard s t R h = ap least (named_heard s t R h)

@@ -6,7 +6,7 @@ use Rattle.air_history.specs.declared.histories.Event.{Event}
 use Rattle.air_history.specs.declared.histories.Event.TheVariants.{Start}
 use Rattle.air_history.specs.declared.updates.Write.{Write}
 use Rattle.air_history.specs.ClashLaws.{cycle_in}
-use Rattle.air_history.specs.Clashes.{Heard, entry_in, entry_of, first_heard, heard_clash, lesser, least, named_clash, newest_heard, read_at}
+use Rattle.air_history.specs.Clashes.{HeardRead, entry_in, entry_of, first_heard, heard_clash, lesser, least, named_clash, newest_heard, read_at}
 use Rattle.air_history.specs.Columns.{aired_entries, column_entry, scheme_of, vector_entry}
 use Rattle.air_history.specs.Descents.{descends, descends_in}
 use Rattle.air_history.specs.Histories.{cycle_at, event_at, front, is_start, reads, writer, writer_before, writes}
@@ -20,7 +20,7 @@ use Rattle.air_history.proofs.HistoryExamples.{add_to, commit, set_to}
 abbrev at : ℕ → ℕ → ReadAt
 at item cycle = record { item = item; cycle = cycle }
 
-abbrev heard : ℕ → ℕ → List ℕ → Heard
+abbrev heard : ℕ → ℕ → List ℕ → HeardRead
 heard item cycle entries = record { item = item; cycle = cycle; entries = entries }
 
 -- A clash with a read.
@@ -31,7 +31,7 @@ clash_at item cycle = Some (record { item = item; cycle = cycle })
 abbrev three : List ReadAt
 three = at 5 2 ∷ at 6 4 ∷ at 7 3 ∷ []
 
-abbrev three_heard : List Heard
+abbrev three_heard : List HeardRead
 three_heard = heard 5 2 (9 ∷ 1 ∷ []) ∷ heard 6 4 (8 ∷ 2 ∷ []) ∷ heard 7 4 (7 ∷ 3 ∷ []) ∷ []
 
 -- Item 0 becomes 11 in cycle 1, and item 1 that and 1 in cycle 2.

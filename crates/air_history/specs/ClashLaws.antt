@@ -12,20 +12,20 @@ use Rattle.air_history.specs.Reads.{ReadAt, stale, newest_cycle}
 use Rattle.air_history.specs.Ages.{capped, spans_too_far}
 use Rattle.air_history.specs.Consistency.{IsConsistent}
 use Rattle.air_history.specs.ConsistencyLaws.{SharesCycle}
-use Rattle.air_history.specs.Clashes.{Heard, read_at, entry_of, is_late, clash_by_history}
+use Rattle.air_history.specs.Clashes.{HeardRead, read_at, entry_of, is_late, clash_by_history}
 
 -- The read has the entries that H airs by the scheme with its item in its cycle, over n items.
-pub record HasAiredEntries (scheme : Scheme) (n : ℕ) (H : List Event) (r : Heard) : Type 0 where
+pub record HasAiredEntries (scheme : Scheme) (n : ℕ) (H : List Event) (r : HeardRead) : Type 0 where
   pub cycle : 1 ≤ r.cycle
   pub within : r.item < n
   pub entries : r.entries ≡ aired_entries scheme n H r.cycle r.item
 
 -- The entry of item i that H airs by the scheme with the read's item in its cycle, over n items.
-abbrev pub aired_entry : Scheme → ℕ → List Event → Heard → ℕ → ℕ
+abbrev pub aired_entry : Scheme → ℕ → List Event → HeardRead → ℕ → ℕ
 aired_entry scheme n H r i = get_or (aired_entries scheme n H r.cycle r.item) i 0
 
 -- The read has n entries, and each is the one that H airs with it, or what an age tells of that one.
-pub record HasCappedEntries (scheme : Scheme) (n : ℕ) (H : List Event) (r : Heard) : Type 0 where
+pub record HasCappedEntries (scheme : Scheme) (n : ℕ) (H : List Event) (r : HeardRead) : Type 0 where
   pub cycle : 1 ≤ r.cycle
   pub within : r.item < n
   pub sized : length r.entries ≡ n
@@ -33,7 +33,7 @@ pub record HasCappedEntries (scheme : Scheme) (n : ℕ) (H : List Event) (r : He
 
 -- The held reads R and the new read x have what H airs: each has its entries in full; or some are capped, and the reads don't
 -- lie too far apart.
-abbrev pub HaveAiredEntries : Scheme → ℕ → List Event → List Heard → Heard → Type 0
+abbrev pub HaveAiredEntries : Scheme → ℕ → List Event → List HeardRead → HeardRead → Type 0
 HaveAiredEntries scheme n H R x =
     (All (HasAiredEntries scheme n H) R × HasAiredEntries scheme n H x)
     ⊎ (All (HasCappedEntries scheme n H) R × HasCappedEntries scheme n H x × (spans_too_far (map read_at R ++ read_at x ∷ []) ≡ false))

@@ -58,38 +58,38 @@ pub record Takes (H : List Event) (R : List ReadAt) (x : ReadAt) : Type 0 where
 -- ---- by the entries
 
 -- A read with the entries that were heard with it: its control column, or the write vector.
-pub record Heard : Type 0 where
+pub record HeardRead : Type 0 where
   pub item : ℕ
   pub cycle : ℕ
   pub entries : List ℕ
 
 -- The read without its entries.
-abbrev pub read_at : Heard → ReadAt
+abbrev pub read_at : HeardRead → ReadAt
 read_at r = record { item = r.item; cycle = r.cycle }
 
 -- The entry of an item that was heard with the read.
-abbrev pub entry_of : Heard → ℕ → ℕ
+abbrev pub entry_of : HeardRead → ℕ → ℕ
 entry_of r i = get_or r.entries i 0
 
 -- The entry of an item that was heard with the first held read of the cycle.
-abbrev pub entry_in : List Heard → ℕ → ℕ → ℕ
+abbrev pub entry_in : List HeardRead → ℕ → ℕ → ℕ
 entry_in [] c i = 0
 entry_in (r ∷ R) c i = cond (r.cycle == c) (entry_of r i) (entry_in R c i)
 
 -- The held read of least item number among those that the test names.
-abbrev pub heard_clash : (Heard → Bool) → List Heard → Option Clash
+abbrev pub heard_clash : (HeardRead → Bool) → List HeardRead → Option Clash
 heard_clash test R = least (map read_at (filter test R))
 
 -- The newest cycle of held reads, 0 where there is none.
-abbrev pub newest_heard : List Heard → ℕ
+abbrev pub newest_heard : List HeardRead → ℕ
 newest_heard R = newest_cycle (map read_at R)
 
 -- The cycle of the first held read, 0 where there is none.
-abbrev pub first_heard : List Heard → ℕ
+abbrev pub first_heard : List HeardRead → ℕ
 first_heard R = first_cycle (map read_at R)
 
 -- The clash of the new read x with the held reads R, by the entries that were heard with them, policy by policy.
-unfoldable pub clash_by_entries : Policy → List Heard → Heard → Option Clash
+unfoldable pub clash_by_entries : Policy → List HeardRead → HeardRead → Option Clash
 -- F-Matrix names each held read where either column has the other's item at its cycle or later.
 clash_by_entries FMatrix R x = heard_clash (λ r. nat_le r.cycle (entry_of x r.item) || nat_le x.cycle (entry_of r x.item)) R
 -- Datacycle asks the new vector where the new cycle is the newest, else the vector of the first held read of the newest cycle.

@@ -19,7 +19,7 @@ ghost use Rattle.air_history.specs.Tables.{table, BasesRead};
 ghost use Rattle.air_history.specs.Reads.{ReadAt, IsRead, read_value};
 ghost use Rattle.air_history.specs.Consistency.{alone, IsConsistent};
 ghost use Rattle.air_history.specs.ConsistencyLaws.{SharesCycle};
-ghost use Rattle.air_history.specs.Clashes.{Heard, read_at, is_late, clash_by_history, clash_by_entries, IsCurrent, Takes};
+ghost use Rattle.air_history.specs.Clashes.{HeardRead, read_at, is_late, clash_by_history, clash_by_entries, IsCurrent, Takes};
 ghost use Rattle.air_history.specs.ClashLaws.{HaveAiredEntries, IsAllowed, Accepts, IsSound};
 
 /// Two lists break no rule exactly if each rule holds: reads and writes within their limits, one write at least, no item twice
@@ -93,7 +93,7 @@ pub fn one_cycle_law()
 /// Wherever the entries are the history's, in full or as ages tell them of reads that don't lie too far apart, the clash by the
 /// entries is the clash by the history.
 pub fn clash_law()
-    ensures { (scheme : Scheme) (n : ℕ) (H : List Event) (R : List Heard) (x : Heard) → HaveAiredEntries scheme n H R x →
+    ensures { (scheme : Scheme) (n : ℕ) (H : List Event) (R : List HeardRead) (x : HeardRead) → HaveAiredEntries scheme n H R x →
         IsAllowed scheme.policy (map read_at R ++ read_at x ∷ []) →
         clash_by_history scheme.policy H (map read_at R) (read_at x) ≡ clash_by_entries scheme.policy R x }
 {}

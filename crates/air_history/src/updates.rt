@@ -3,7 +3,7 @@
 //! The type keeps the rules: reads distinct and at most 16, writes distinct and 1 to 16, each base read, a minus
 //! only with a base. Contracts see an update as its two lists.
 
-ghost use Rattle.std.specs.Prelude.{◌≡◌, ◌↔◌, ◌≤◌, length, map, MatchResult, IfOk, IsTrue, All, ◌⊎◌, ◌==◌, Some, None};
+ghost use Rattle.std.specs.Prelude.{◌≡◌, ◌↔◌, ◌≤◌, length, map, MatchResult, IfOk, IsTrue, ◌⊎◌, ◌==◌, Some, None};
 ghost use Rattle.std.specs.List.{list_any, list_all};
 ghost use Rattle.air_history.specs.UpdateRules.{has_repeat, written_item, base_is_read, update_fault, KeepsRules, UpdateFits};
 

@@ -8,7 +8,7 @@ use Rattle.air_history.specs.declared.histories.Event.{Event}
 use Rattle.air_history.specs.Ages.{capped, span, spans_too_far}
 use Rattle.air_history.specs.Columns.{Scheme, aired_entries}
 use Rattle.air_history.specs.Reads.{ReadAt, newest_cycle, oldest_cycle}
-use Rattle.air_history.specs.Clashes.{Heard, read_at}
+use Rattle.air_history.specs.Clashes.{HeardRead, read_at}
 use Rattle.air_history.specs.ClashLaws.{HasAiredEntries, HasCappedEntries, HaveAiredEntries}
 use Rattle.air_history.proofs.AgeLemmas.{full_is_capped, oldest_with, span_push}
 use Rattle.air_model.specs.Buckets.{capped_entries, has_ages}
@@ -19,7 +19,7 @@ use Rattle.air_model.proofs.CapLemmas.{entries_by, full_entries}
 -- ---- one read
 
 -- A read of item j in cycle c, with the entries that a bucket of this version has.
-abbrev pub told_by : Scheme → ℕ → List Event → ℕ → ℕ → ℕ → Heard
+abbrev pub told_by : Scheme → ℕ → List Event → ℕ → ℕ → ℕ → HeardRead
 told_by scheme n H v c j = record { item = j; cycle = c; entries = capped_entries v c (aired_entries scheme n H c j) }
 
 -- It has what H airs, in full or by age.
@@ -41,13 +41,13 @@ pub has_full : (scheme : Scheme) (n : ℕ) (H : List Event) (v c j : ℕ) → 1 
 has_full scheme n H v c j one within e = record { cycle = one; within = within; entries = full_entries v c (aired_entries scheme n H c j) e }
 
 -- A read may be heard on an air of this version: capped, and in full where the version has no ages.
-abbrev pub MayBeHeard : Scheme → ℕ → ℕ → List Event → Heard → Type 0
+abbrev pub MayBeHeard : Scheme → ℕ → ℕ → List Event → HeardRead → Type 0
 MayBeHeard scheme version n H r = HasCappedEntries scheme n H r × (has_ages version ≡ false → HasAiredEntries scheme n H r)
 
 -- ---- reads together
 
 -- Reads that may be heard and don't lie too far apart for the version have what H airs.
-pub have_aired : (scheme : Scheme) (version n : ℕ) (H : List Event) (R : List Heard) (x : Heard) → All (MayBeHeard scheme version n H) R → MayBeHeard scheme version n H x →
+pub have_aired : (scheme : Scheme) (version n : ℕ) (H : List Event) (R : List HeardRead) (x : HeardRead) → All (MayBeHeard scheme version n H) R → MayBeHeard scheme version n H x →
     are_far version (map read_at R ++ read_at x ∷ []) ≡ false → HaveAiredEntries scheme n H R x
 have_aired scheme version n H R x are is near = by (has_ages version) refl near
   where

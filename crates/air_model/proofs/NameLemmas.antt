@@ -8,7 +8,7 @@ use Rattle.air_base.specs.declared.verdicts.Policy.TheVariants.{FMatrix, Datacyc
 use Rattle.air_base.specs.declared.verdicts.Clash.{Clash}
 use Rattle.air_history.specs.declared.histories.Event.{Event}
 use Rattle.air_history.specs.Reads.{ReadAt, first_cycle, newest_cycle, same_origin}
-use Rattle.air_history.specs.Clashes.{Heard, clash_by_entries, clash_by_history, entry_in, entry_of, first_heard, heard_clash, least, lesser, named_clash, newest_heard, read_at}
+use Rattle.air_history.specs.Clashes.{HeardRead, clash_by_entries, clash_by_history, entry_in, entry_of, first_heard, heard_clash, least, lesser, named_clash, newest_heard, read_at}
 use Rattle.air_history.specs.Columns.{Scheme}
 use Rattle.air_model.specs.Judges.{by_entries, by_history, heard_of, place_of}
 use Rattle.air_model.specs.SessionLaws.{NamesHeld}
@@ -69,7 +69,7 @@ history_names FMatrix H R x = named_names _ R
 history_names Datacycle H R x = cond_names R (nat_le (newest_cycle R) x.cycle) _ _ (named_names _ R) (cond_names R (same_origin H x.item (newest_cycle R) x.cycle) _ _ (none_names R) (named_names _ R))
 history_names RMatrix H R x = cond_names R (same_origin H x.item x.cycle (first_cycle R)) _ _ (none_names R) (named_names _ R)
 
-heard_has : (test : Heard → Bool) (R : List Heard) (i : ℕ) → Has (map read_at (filter test R)) i → Has (map read_at R) i
+heard_has : (test : HeardRead → Bool) (R : List HeardRead) (i : ℕ) → Has (map read_at (filter test R)) i → Has (map read_at R) i
 heard_has test [] i h = h
 heard_has test (r ∷ R) i h = by (test r) (λ i h. heard_has test R i h) h
   where
@@ -78,10 +78,10 @@ heard_has test (r ∷ R) i h = by (test r) (λ i h. heard_has test R i h) h
     by true rest (suc k, l, e) = contains_later r.item (map (λ r. r.item) (map read_at R)) i (rest i (k, omega arith, e))
     by false rest h = contains_later r.item (map (λ r. r.item) (map read_at R)) i (rest i h)
 
-heard_names : (test : Heard → Bool) (R : List Heard) → Names (map read_at R) (heard_clash test R)
+heard_names : (test : HeardRead → Bool) (R : List HeardRead) → Names (map read_at R) (heard_clash test R)
 heard_names test R c e = heard_has test R c.item (least_names (map read_at (filter test R)) c e)
 
-entries_names : (p : Policy) (R : List Heard) (x : Heard) → Names (map read_at R) (clash_by_entries p R x)
+entries_names : (p : Policy) (R : List HeardRead) (x : HeardRead) → Names (map read_at R) (clash_by_entries p R x)
 unfolding clash_by_entries
 entries_names FMatrix R x = heard_names _ R
 entries_names Datacycle R x = cond_names (map read_at R) (nat_le (newest_heard R) x.cycle) _ _ (heard_names _ R)

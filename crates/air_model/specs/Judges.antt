@@ -6,7 +6,7 @@ use Rattle.air_history.specs.declared.histories.Event.{Event}
 use Rattle.air_history.specs.Columns.{Scheme}
 use Rattle.air_history.specs.Reads.{ReadAt, read_value}
 use Rattle.air_history.specs.Tables.{values_of}
-use Rattle.air_history.specs.Clashes.{Heard, clash_by_history, clash_by_entries}
+use Rattle.air_history.specs.Clashes.{HeardRead, clash_by_history, clash_by_entries}
 use Rattle.air_model.specs.Reads.{Read}
 
 -- A judge says the value of a read, and the held read with which a new one clashes.
@@ -19,7 +19,7 @@ abbrev pub place_of : Read → ReadAt
 place_of r = record { item = r.item; cycle = r.cycle }
 
 -- What the entries see of a read is its item, its cycle and its entries.
-abbrev pub heard_of : Read → Heard
+abbrev pub heard_of : Read → HeardRead
 heard_of r = record { item = r.item; cycle = r.cycle; entries = r.entries }
 
 -- The history judges by origins, and takes values from its tables.

@@ -5,8 +5,8 @@ use Rattle.air_model.specs.Decks.{Deck, IsWhole}
 use Rattle.air_model.specs.declared.reports.LookLine.{LookLine}
 use Rattle.air_model.specs.MonitorSights.{AreGlances, AreLooks}
 
--- A run has a history; the batches that were published, as the publisher's note at the end tells them (`run_threads` says by
--- `AirsByBatches` which these are); and what monitors saw: glances beside the run, and looks at its end.
+-- A run has a history; the batches that were published, as the publisher's note at the end tells them (those of `AirsByBatches`);
+-- and what monitors saw: glances beside the run, and looks at its end.
 pub record Run : Type 0 where
   pub history : List Event
   pub batches : List (List Event)

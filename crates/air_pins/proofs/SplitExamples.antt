@@ -1,5 +1,5 @@
 -- Splits of decks of one disk, at the most slots that a program may have and one above, and lists of sizes that are no split.
-use Rattle.std.proofs.Common.{◌≡◌, ◌≤◌, ◌<◌, ℕ, zero, suc, false, List, [], ◌∷◌, All, length, map, replicate, refl, sym, subst, ap, ◌∙◌, arith}
+use Rattle.std.proofs.Common.{◌≡◌, ◌≤◌, ℕ, false, List, [], ◌∷◌, All, length, map, replicate, refl, sym, subst, ap, arith}
 use Rattle.std.proofs.lemmas.List.Elements.{All-cons, All-nil}
 use Rattle.std.proofs.lemmas.List.Sums.{sum_by-cons}
 use Rattle.air_base.specs.declared.verdicts.Policy.TheVariants.{FMatrix}

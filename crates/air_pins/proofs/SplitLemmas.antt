@@ -11,8 +11,8 @@ use Rattle.air_model.specs.Disks.{DiskSpec, cut, order, order_with}
 use Rattle.air_model.specs.Programs.{chunk_len, least_common_multiple, minor_len, num_chunks, num_minors}
 use Rattle.disk_split.specs.SplitAnswers.{SaysTooLong, SaysTooMuch, search_size}
 use Rattle.disk_split.specs.Splits.{IsBest, IsShortSplit, IsSplit, cost, is_before, minor_of, resized, slots_of}
-use Rattle.disk_split.specs.Private.Numbers.{chunks_in, minors_in}
-use Rattle.disk_split.specs.Private.Rests.{minor_from}
+use Rattle.disk_split.specs.Numbers.{chunks_in, minors_in}
+use Rattle.disk_split.specs.Rests.{minor_from}
 use Rattle.disk_split.specs.declared.splits.SplitFault.{SplitFault}
 use Rattle.disk_split.specs.declared.splits.SplitFault.TheVariants.{TooMuch, TooLong, NoMemory}
 use Rattle.disk_split.proofs.DeckLemmas.{slots_walk}

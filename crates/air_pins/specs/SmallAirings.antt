@@ -5,8 +5,8 @@ use Rattle.air_model.specs.Buckets.{Bucket, Body, Idle, Column, spelling}
 use Rattle.air_devices.specs.Masts.{SentBuckets}
 
 -- A board of two items in cycle 2, of which item 1 was written in cycle 1 from item 0.
-abbrev pub pair : Board
-pair = record {
+abbrev pub two_item_board : Board
+two_item_board = record {
   cycle = 2;
   values = 11 ∷ 12 ∷ [];
   columns = (1 ∷ 0 ∷ []) ∷ (1 ∷ 1 ∷ []) ∷ [];
@@ -14,14 +14,14 @@ pair = record {
 }
 
 -- A bucket of this version and cycle 2.
-abbrev pub bucket : ℕ → ℕ → Body → Bucket
-bucket version slot body = record { version = version; edition = 0; cycle = 2; slot = slot; body = body }
+abbrev pub in_cycle_2 : ℕ → ℕ → Body → Bucket
+in_cycle_2 version slot body = record { version = version; edition = 0; cycle = 2; slot = slot; body = body }
 
 -- The buckets of this version of its cycle where item 0 comes twice, item 1 once, and one slot is idle.
 abbrev pub four_buckets : ℕ → List (List ℕ)
 four_buckets version = map spelling (
-    bucket version 0 (Column 0 11 (1 ∷ 0 ∷ [])) ∷ bucket version 1 (Column 1 12 (1 ∷ 1 ∷ [])) ∷ bucket version 2 (Column 0 11 (1 ∷ 0 ∷ []))
-    ∷ bucket version 3 (Idle 2) ∷ [])
+    in_cycle_2 version 0 (Column 0 11 (1 ∷ 0 ∷ [])) ∷ in_cycle_2 version 1 (Column 1 12 (1 ∷ 1 ∷ [])) ∷ in_cycle_2 version 2 (Column 0 11 (1 ∷ 0 ∷ []))
+    ∷ in_cycle_2 version 3 (Idle 2) ∷ [])
 
 -- These were sent, and no end.
 abbrev pub sent : List (List ℕ) → SentBuckets

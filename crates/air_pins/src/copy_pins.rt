@@ -2,8 +2,7 @@
 //! lent. The copy of least PIX number goes first.
 #![tactic(auto, unfolding(air_model::specs::Copies::keep, air_model::specs::Copies::with_copy, air_model::specs::Copies::without_item, pix_cache::specs::Caches::copy_among))]
 
-ghost use Rattle.std.specs.Prelude.{◌≡◌, [], ◌∷◌, Some, MatchOption};
-ghost use Rattle.pix_cache.specs.Caches.{copy};
+ghost use Rattle.std.specs.Prelude.{◌≡◌, [], ◌∷◌, MatchOption};
 ghost use Rattle.air_pins.specs.SmallCaches.{cache, of_two, of_three};
 
 use pix_cache::{KeepAnswer, Kept, PixCache};

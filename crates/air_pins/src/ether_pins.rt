@@ -3,9 +3,9 @@
 //! Each fixes a seed and the odds, so that what is due can be computed.
 #![tactic(auto, unfolding(air_model::specs::Draws::words_by, air_model::specs::Ethers::times_heard, air_model::specs::Ethers::due_number, air_model::specs::Ethers::due_at, air_model::specs::Ethers::places_due, air_ether::specs::HeardSoFar::due_of))]
 
-ghost use Rattle.std.specs.Prelude.{◌≡◌, ◌≤◌, [], ◌∷◌, codes, true, false, None, IfOk, MatchOption};
+ghost use Rattle.std.specs.Prelude.{◌≡◌, ◌≤◌, [], ◌∷◌, codes, true, false, IfOk, MatchOption};
 ghost use Rattle.air_ether.specs.HeardSoFar.{IsQuiet};
-ghost use Rattle.air_pins.specs.SmallEthers.{Gave, nine, odds};
+ghost use Rattle.air_pins.specs.SmallEthers.{HasGiven, nine, odds};
 
 use air_base::NoMemory;
 use air_ether::Ether;
@@ -14,7 +14,7 @@ use std::alloc::Global;
 /// When the second push is made, the first one, which is late, is due with its own bucket. It also refuses that it is due one push
 /// later.
 pub fn bucket_of_another_place(ether: &mut Ether) -> Option<&[u8]>
-    requires { Gave 12 (odds 0 0 100) (codes "a" ∷ codes "b" ∷ []) 0 false ether.old }
+    requires { HasGiven 12 (odds 0 0 100) (codes "a" ∷ codes "b" ∷ []) 0 false ether.old }
     ensures { MatchOption result ⊥ (λ bytes. bytes.now ≡ codes "a") }
 {
     ether.next()
@@ -22,7 +22,7 @@ pub fn bucket_of_another_place(ether: &mut Ether) -> Option<&[u8]>
 
 /// The second of two copies comes right after the first.
 pub fn copies_apart(ether: &mut Ether) -> Option<&[u8]>
-    requires { Gave 12 (odds 0 100 0) (codes "a" ∷ []) 1 false ether.old }
+    requires { HasGiven 12 (odds 0 100 0) (codes "a" ∷ []) 1 false ether.old }
     ensures { MatchOption result ⊥ (λ bytes. bytes.now ≡ codes "a") }
 {
     ether.next()
@@ -30,7 +30,7 @@ pub fn copies_apart(ether: &mut Ether) -> Option<&[u8]>
 
 /// The first of nine pushes is heard eight pushes later, as the last one is made.
 pub fn eight_rooms_for_nine(ether: &mut Ether) -> Option<&[u8]>
-    requires { Gave 1910 (odds 0 0 100) nine 0 false ether.old }
+    requires { HasGiven 1910 (odds 0 0 100) nine 0 false ether.old }
     ensures { MatchOption result ⊥ (λ bytes. bytes.now ≡ codes "a") }
 {
     ether.next()
@@ -38,7 +38,7 @@ pub fn eight_rooms_for_nine(ether: &mut Ether) -> Option<&[u8]>
 
 /// After the end what waits is heard too.
 pub fn end_drops_what_waits(ether: &mut Ether) -> Option<&[u8]>
-    requires { Gave 12 (odds 0 0 100) (codes "a" ∷ []) 0 true ether.old }
+    requires { HasGiven 12 (odds 0 0 100) (codes "a" ∷ []) 0 true ether.old }
     ensures { MatchOption result ⊥ (λ bytes. bytes.now ≡ codes "a") }
 {
     ether.next()
@@ -46,7 +46,7 @@ pub fn end_drops_what_waits(ether: &mut Ether) -> Option<&[u8]>
 
 /// The first copy of the second push is heard.
 pub fn first_copy_passed_over(ether: &mut Ether) -> Option<&[u8]>
-    requires { Gave 12 (odds 0 0 0) (codes "a" ∷ codes "b" ∷ []) 1 false ether.old }
+    requires { HasGiven 12 (odds 0 0 0) (codes "a" ∷ codes "b" ∷ []) 1 false ether.old }
     ensures { MatchOption result ⊥ (λ bytes. bytes.now ≡ codes "b") }
 {
     ether.next()
@@ -54,7 +54,7 @@ pub fn first_copy_passed_over(ether: &mut Ether) -> Option<&[u8]>
 
 /// A push that is lost draws three words too. It also refuses that each push draws two.
 pub fn lost_ones_draw_less(ether: &mut Ether, bytes: &[u8])
-    requires ether { Gave 12 (odds 100 0 0) [] 0 false ether.old }
+    requires ether { HasGiven 12 (odds 100 0 0) [] 0 false ether.old }
     requires quiet { IsQuiet ether.old }
     requires room { 1 ≤ ether.old.most }
     requires bytes { bytes.now ≡ codes "a" }
@@ -65,7 +65,7 @@ pub fn lost_ones_draw_less(ether: &mut Ether, bytes: &[u8])
 
 /// A late push isn't due at its own place.
 pub fn place_before_due_number(ether: &mut Ether) -> Option<&[u8]>
-    requires { Gave 12 (odds 0 0 100) (codes "a" ∷ []) 0 false ether.old }
+    requires { HasGiven 12 (odds 0 0 100) (codes "a" ∷ []) 0 false ether.old }
     ensures { MatchOption result (Unit {0}) (λ _. ⊥) }
 {
     ether.next()

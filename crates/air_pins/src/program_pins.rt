@@ -3,7 +3,7 @@
 //! The slots of `four_slots` carry the items 0, 1, 0 and 2.
 #![tactic(auto, unfolding(air_model::specs::Disks::order_with, air_model::specs::Disks::order, air_model::specs::Disks::cut, air_model::specs::Disks::all_items, air_model::specs::Programs::least_common_multiple, air_model::specs::Programs::num_minors, air_model::specs::Programs::num_chunks, air_model::specs::Programs::chunk_len, air_model::specs::Programs::chunk, air_model::specs::Programs::minor_cycle, air_model::specs::Programs::minor_len, air_model::specs::Programs::program, air_model::specs::Airings::next_wake, air_model::specs::Airings::disk_number, air_model::specs::Airings::chunks_of, air_model::specs::Airings::gap_of, air_model::specs::Airings::pix_number))]
 
-ghost use Rattle.std.specs.Prelude.{◌≡◌, ◌≤◌, [], ◌∷◌, length, Some, None, IfOk, IfErr};
+ghost use Rattle.std.specs.Prelude.{◌≡◌, [], ◌∷◌, length, Some, IfOk, IfErr};
 ghost use Rattle.air_base.specs.declared.limits.TheConstants.{MOST_SLOTS};
 ghost use Rattle.air_model.specs.Decks.{disks_in, rates_in};
 ghost use Rattle.air_model.specs.Programs.{program};

@@ -3,12 +3,12 @@
 //! The program's slots carry the items 0, 1, 0 and none; the board is in cycle 2.
 #![tactic(auto, unfolding(air_model::specs::Disks::all_items, air_model::specs::Programs::least_common_multiple, air_model::specs::Programs::num_minors, air_model::specs::Programs::num_chunks, air_model::specs::Programs::chunk_len, air_model::specs::Programs::chunk, air_model::specs::Programs::minor_cycle, air_model::specs::Programs::program, air_model::specs::Tapes::record_bytes, air_model::specs::Tapes::tape_of, air_sender::specs::BoardBuckets::body_on, air_sender::specs::BoardBuckets::bucket_on, air_model::specs::Buckets::capped_body, air_model::specs::Buckets::capped_entries, air_history::specs::Ages::capped))]
 
-ghost use Rattle.std.specs.Prelude.{◌≡◌, ◌<◌, ◌≤◌, [], ◌∷◌, codes, length, take, Some, None, IsErr, IfErr, OnOk};
+ghost use Rattle.std.specs.Prelude.{◌≡◌, ◌<◌, ◌≤◌, [], codes, length, take, Some, None, IsErr, IfErr, OnOk};
 ghost use Rattle.air_devices.specs.Masts.{fresh_mast};
 ghost use Rattle.air_sender.specs.AirFaults.{failed_slot};
 ghost use Rattle.air_sender.specs.TapeMasts.{tape_mast_state};
 ghost use Rattle.air_pins.specs.SmallPrograms.{idle_slot};
-ghost use Rattle.air_pins.specs.SmallAirings.{pair, four_buckets, sent};
+ghost use Rattle.air_pins.specs.SmallAirings.{two_item_board, four_buckets, sent};
 
 use air_base::{Form, Policy};
 use air_devices::{Failed, Mast};
@@ -38,7 +38,7 @@ pub fn column_of_another_item(
     buf: &mut [u8],
 ) -> Result<(), AirFault>
     requires program { program.now ≡ idle_slot }
-    requires board { board.now ≡ pair }
+    requires board { board.now ≡ two_item_board }
     requires mast { tape_mast_state mast.old ≡ fresh_mast }
     requires room { 32 ≤ length buf.old }
     ensures { OnOk result (tape_mast_state mast.new ≡ record { told = Some (sent (four_buckets 1)); faults = 0; port = None }) }
@@ -54,7 +54,7 @@ pub fn version_1_whatever_the_form(
     buf: &mut [u8],
 ) -> Result<(), AirFault>
     requires program { program.now ≡ idle_slot }
-    requires board { board.now ≡ pair }
+    requires board { board.now ≡ two_item_board }
     requires mast { tape_mast_state mast.old ≡ fresh_mast }
     requires room { 26 ≤ length buf.old }
     ensures { OnOk result (tape_mast_state mast.new ≡ record { told = Some (sent (four_buckets 2)); faults = 0; port = None }) }
@@ -71,7 +71,7 @@ pub fn next_slot_blamed_after_a_second_try<M: Mast>(
     buf: &mut [u8],
 ) -> Result<(), AirFault>
     requires program { program.now ≡ idle_slot }
-    requires board { board.now ≡ pair }
+    requires board { board.now ≡ two_item_board }
     requires mast { M.state mast.old ≡ fresh_mast }
     requires room { 32 ≤ length buf.old }
     ensures within { IfErr result (λ fault. failed_slot fault < 4) }

@@ -10,14 +10,14 @@ use Rattle.item_catalog.proofs.RecordPlaces.{along}
 use Rattle.air_report.specs.Kinds.{report_kind_number}
 use Rattle.air_report.specs.LineTexts.{spelled_line}
 use Rattle.air_report.specs.LineFaults.{comes_after_later_section, comes_next, is_begun, is_filled, is_known, is_next, line_kinds_after, line_kinds_at, line_tests, spelled_lines}
-use Rattle.air_report.specs.LineGrammar.{RowsSpellLines}
+use Rattle.air_report.specs.LineGrammar.{RecordsSpellLines}
 use Rattle.air_report.specs.ReportLines.{ReportLines, sections_of, starts_in}
 use Rattle.air_report.specs.Private.RecordAnswers.{with_one_line}
-use Rattle.air_report.specs.declared.reading.kinds.FaultKind.{FaultKind}
-use Rattle.air_report.specs.declared.reading.kinds.FaultKind.TheVariants as fault
+use Rattle.air_report.specs.declared.reading.kinds.ReportFaultKind.{ReportFaultKind}
+use Rattle.air_report.specs.declared.reading.kinds.ReportFaultKind.TheVariants as fault
 use Rattle.air_report.specs.declared.reading.lines.EventLine.{EventLine}
-use Rattle.air_report.specs.declared.reading.lines.Line.{Line}
-use Rattle.air_report.specs.declared.reading.lines.Line.TheVariants as l
+use Rattle.air_report.specs.declared.reading.lines.ReportLine.{ReportLine}
+use Rattle.air_report.specs.declared.reading.lines.ReportLine.TheVariants as l
 use Rattle.air_report.proofs.PlaceLemmas.{judge, lines_more, sections_more}
 use Rattle.air_report.specs.LineRules.{EachNext, InGrammar, IsRight}
 
@@ -36,7 +36,7 @@ none_of false false true d h = cc h
 none_of false false false true h = cc h
 none_of false false false false h = (refl, refl, refl, refl)
 
-four : (a b c d : FaultKind) (p q r s : Bool) → first_of ((a, p) ∷ (b, q) ∷ (c, r) ∷ (d, s) ∷ []) ≡ None → (p ≡ false) × (q ≡ false) × (r ≡ false) × (s ≡ false)
+four : (a b c d : ReportFaultKind) (p q r s : Bool) → first_of ((a, p) ∷ (b, q) ∷ (c, r) ∷ (d, s) ∷ []) ≡ None → (p ≡ false) × (q ≡ false) × (r ≡ false) × (s ≡ false)
 four a b c d true q r s h = cc h
 four a b c d false true r s h = cc h
 four a b c d false false true s h = cc h
@@ -52,19 +52,19 @@ module _ (deck : Deck) where
   next_more before [] x each next = (ap (λ es. is_next deck es x) (sym (append-nil before)) ∙ next, tt)
   next_more before (y ∷ xs) x each next = (each.0, next_more (before ++ y ∷ []) xs x each.1 (ap (λ es. is_next deck es x) (append_assoc before (y ∷ []) xs) ∙ next))
 
-  abbrev AreRight : {L : Type 0} → ℕ → (L → Line) → List L → Type 0
+  abbrev AreRight : {L : Type 0} → ℕ → (L → ReportLine) → List L → Type 0
   AreRight starts wrap lines = All (λ line. IsRight deck starts (wrap line)) lines
 
-  none_right : {L : Type 0} (starts : ℕ) (wrap : L → Line) (lines : List L) → is_filled lines ≡ false → AreRight starts wrap lines
+  none_right : {L : Type 0} (starts : ℕ) (wrap : L → ReportLine) (lines : List L) → is_filled lines ≡ false → AreRight starts wrap lines
   none_right starts wrap lines none = let P : List _ → Type 0 = AreRight starts wrap in subst P (sym (empty lines none)) (All-nil (λ line. IsRight deck starts (wrap line)))
 
-  facts : (r : ReportLines) (x : Line) → first_of (line_tests deck r x) ≡ None
+  facts : (r : ReportLines) (x : ReportLine) → first_of (line_tests deck r x) ≡ None
       → (comes_after_later_section r x ≡ false) × (comes_next deck r.events x ≡ true) × (is_known deck x ≡ true) × (is_begun (starts_in r.events) x ≡ true)
   facts r x none =
       let t = four fault.Order fault.Update fault.Deck fault.Cycle (comes_after_later_section r x) (not (comes_next deck r.events x)) (not (is_known deck x)) (not (is_begun (starts_in r.events) x)) none in
       (t.0, not_false (comes_next deck r.events x) t.1, not_false (is_known deck x) t.2, not_false (is_begun (starts_in r.events) x) t.3)
 
-  kept_more : (r : ReportLines) (x : Line) → InGrammar deck r → first_of (line_tests deck r x) ≡ None → InGrammar deck (with_one_line r x)
+  kept_more : (r : ReportLines) (x : ReportLine) → InGrammar deck r → first_of (line_tests deck r x) ≡ None → InGrammar deck (with_one_line r x)
   kept_more r (l.Event line) k none =
       let t = facts r (l.Event line) none in
       let late = none_of (is_filled r.verdicts) (is_filled r.counts) (is_filled r.glances) (is_filled r.looks) t.0 in
@@ -99,11 +99,11 @@ module _ (deck : Deck) where
   kept_row : (rows : List (List (List ℕ))) (row : List (List ℕ)) → line_kinds_after deck (sections_of (spelled_lines deck.settings.version rows)) (spelled_line deck.settings.version row) ≡ [] → InGrammar deck (sections_of (spelled_lines deck.settings.version rows)) → InGrammar deck (sections_of (spelled_lines deck.settings.version (rows ++ row ∷ [])))
   kept_row rows row none k = by (spelled_line deck.settings.version row) refl none
     where
-      by : (r : Result Line FaultKind) → spelled_line deck.settings.version row ≡ r → line_kinds_after deck (sections_of (spelled_lines deck.settings.version rows)) r ≡ [] → InGrammar deck (sections_of (spelled_lines deck.settings.version (rows ++ row ∷ [])))
+      by : (r : Result ReportLine ReportFaultKind) → spelled_line deck.settings.version row ≡ r → line_kinds_after deck (sections_of (spelled_lines deck.settings.version rows)) r ≡ [] → InGrammar deck (sections_of (spelled_lines deck.settings.version (rows ++ row ∷ [])))
       by (Err kind) e h = cc h
       by (Ok x) e h = rw (lines_more deck.settings.version rows row x e, sections_more (spelled_lines deck.settings.version rows) x) (kept_more (sections_of (spelled_lines deck.settings.version rows)) x k (none_first report_kind_number (line_tests deck (sections_of (spelled_lines deck.settings.version rows)) x) h))
 
-  pub spelled_kept : (rows : List (List (List ℕ))) (lines : ReportLines) → RowsSpellLines deck rows lines → InGrammar deck lines
+  pub spelled_kept : (rows : List (List (List ℕ))) (lines : ReportLines) → RecordsSpellLines deck rows lines → InGrammar deck lines
   unfolding line_kinds_at
   spelled_kept rows lines s =
       let P : ReportLines → Type 0 = InGrammar deck in

@@ -9,8 +9,8 @@ use Rattle.air_report.specs.LineFaults.{spelled_lines}
 use Rattle.air_report.specs.LineTexts.{spelled_line}
 use Rattle.air_report.specs.LineGrammar.{SpellsLines}
 use Rattle.air_report.specs.ReportLines.{ReportLines, sections_of}
-use Rattle.air_report.specs.declared.reading.lines.Line.{Line}
-use Rattle.air_report.specs.declared.reading.lines.Line.TheVariants as l
+use Rattle.air_report.specs.declared.reading.lines.ReportLine.{ReportLine}
+use Rattle.air_report.specs.declared.reading.lines.ReportLine.TheVariants as l
 
 -- The number of a report's lines.
 abbrev pub line_count : ReportLines → ℕ
@@ -25,7 +25,7 @@ kept_few f (x ∷ xs) = by (f x) (kept_few f xs)
     by (Some y) rest = omega arith
 
 -- Each line stands in one section.
-counted : (lines : List Line) → line_count (sections_of lines) ≡ length lines
+counted : (lines : List ReportLine) → line_count (sections_of lines) ≡ length lines
 counted [] = refl
 counted (l.Event line ∷ lines) = let rest = counted lines in omega arith
 counted (l.Verdict line ∷ lines) = let rest = counted lines in omega arith

@@ -14,12 +14,12 @@ use Rattle.air_report.specs.LineTexts.{abort_by, abort_of, aged_by, aged_of, age
 use Rattle.air_report.specs.RecordRows.{row_in}
 use Rattle.air_report.specs.LineFaults.{comes_after_later_section, comes_next, end_begun, follow, has_begun, is_attempt, is_begun, is_filled, is_known, is_next, is_tried, leads, line_kinds_after, line_place_kinds, line_tests, may_end, read_item}
 use Rattle.air_report.specs.ReportLines.{ReportLines, commits_by, commits_of, its_counts, its_event, its_look, sections_of, starts_cycle, starts_in}
-use Rattle.air_report.specs.declared.reading.kinds.FaultKind.TheVariants as fault
+use Rattle.air_report.specs.declared.reading.kinds.ReportFaultKind.TheVariants as fault
 use Rattle.air_report.specs.declared.reading.lines.EventLine.{EventLine}
 use Rattle.air_report.specs.declared.reading.lines.EventLine.TheVariants.{Commit, Start}
-use Rattle.air_report.specs.declared.reading.lines.Line.{Line}
-use Rattle.air_report.specs.declared.reading.lines.Line.TheVariants as l
-use Rattle.air_report.specs.declared.reading.tags.Tag.TheVariants as t
+use Rattle.air_report.specs.declared.reading.lines.ReportLine.{ReportLine}
+use Rattle.air_report.specs.declared.reading.lines.ReportLine.TheVariants as l
+use Rattle.air_report.specs.declared.reading.tags.LineTag.TheVariants as t
 use Rattle.air_report.proofs.TextExamples.{deck, young}
 
 -- A read of an item in a cycle, with its value.
@@ -135,7 +135,7 @@ abbrev before : ReportLines
 before = sections_of (l.Event Start ∷ l.Event (Commit 0 0) ∷ l.Look (look 0 1) ∷ [])
 
 -- The kinds that apply to a line behind these.
-abbrev kinds : Line → List ℕ
+abbrev kinds : ReportLine → List ℕ
 kinds line = kinds_of report_kind_number (line_tests deck before line)
 
 pub record Lines : Type 0 where

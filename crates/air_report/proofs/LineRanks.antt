@@ -3,12 +3,12 @@ use Rattle.std.proofs.Common.{◌≡◌, ◌++◌, ◌∷◌, [], ℕ, List, fal
 use Rattle.air_report.specs.LineFaults.{comes_after_later_section, is_filled}
 use Rattle.air_report.specs.ReportLines.{ReportLines}
 use Rattle.air_report.specs.Private.RecordAnswers.{with_one_line}
-use Rattle.air_report.specs.declared.reading.lines.Line.{Line}
-use Rattle.air_report.specs.declared.reading.lines.Line.TheVariants as l
+use Rattle.air_report.specs.declared.reading.lines.ReportLine.{ReportLine}
+use Rattle.air_report.specs.declared.reading.lines.ReportLine.TheVariants as l
 use Rattle.air_report.proofs.LineOrder.{together}
 
 -- The number of a line's section.
-abbrev rank : Line → ℕ
+abbrev rank : ReportLine → ℕ
 rank (l.Event x) = 0
 rank (l.Verdict x) = 1
 rank (l.Counts x) = 2
@@ -16,16 +16,16 @@ rank (l.Glance x) = 3
 rank (l.Look x) = 4
 
 -- The number of the last line's section.
-last_rank : ℕ → List Line → ℕ
+last_rank : ℕ → List ReportLine → ℕ
 last_rank n [] = n
 last_rank n (x ∷ xs) = last_rank (rank x) xs
 
-last_more : (n : ℕ) (xs ys : List Line) → last_rank n (xs ++ ys) ≡ last_rank (last_rank n xs) ys
+last_more : (n : ℕ) (xs ys : List ReportLine) → last_rank n (xs ++ ys) ≡ last_rank (last_rank n xs) ys
 unfolding last_rank
 last_more n [] ys = refl
 last_more n (x ∷ xs) ys = last_more (rank x) xs ys
 
-module _ {L : Type 0} (wrap : L → Line) (k : ℕ) (own : (x : L) → rank (wrap x) ≡ k) where
+module _ {L : Type 0} (wrap : L → ReportLine) (k : ℕ) (own : (x : L) → rank (wrap x) ≡ k) where
   last_of : (n : ℕ) (x : L) (xs : List L) → last_rank n (map wrap (x ∷ xs)) ≡ k
   unfolding last_rank
   last_of n x [] = own x
@@ -45,12 +45,12 @@ ends r =
     last_more 0 (E ++ V ++ C ++ G) K
     ∙ ap (λ n. last_rank n K) (last_more 0 (E ++ V ++ C) G ∙ ap (λ n. last_rank n G) (last_more 0 (E ++ V) C ∙ ap (λ n. last_rank n C) (last_more 0 E V)))
 
-module _ (r : ReportLines) (x : Line) (behind : together (with_one_line r x) ≡ together r ++ x ∷ []) where
+module _ (r : ReportLines) (x : ReportLine) (behind : together (with_one_line r x) ≡ together r ++ x ∷ []) where
   last : last_rank 0 (together (with_one_line r x)) ≡ rank x
   unfolding last_rank
   last = ap (last_rank 0) behind ∙ last_more 0 (together r) (x ∷ [])
 
-pub in_time : (r : ReportLines) (x : Line) → together (with_one_line r x) ≡ together r ++ x ∷ [] → comes_after_later_section r x ≡ false
+pub in_time : (r : ReportLines) (x : ReportLine) → together (with_one_line r x) ≡ together r ++ x ∷ [] → comes_after_later_section r x ≡ false
 in_time r (l.Event x) h =
     let E = map l.Event (r.events ++ x ∷ []) in let V = map l.Verdict r.verdicts in let C = map l.Counts r.counts in let G = map l.Glance r.glances in
     let n1 = last_rank 0 E in let n2 = last_rank n1 V in let n3 = last_rank n2 C in let n4 = last_rank n3 G in

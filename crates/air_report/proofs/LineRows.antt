@@ -7,14 +7,14 @@ use Rattle.air_model.specs.Decks.{Deck}
 use Rattle.air_report.specs.LineTexts.{spelled_line}
 use Rattle.air_report.specs.LineGrammar.{SpellsLines}
 use Rattle.air_report.specs.ReportLines.{ReportLines, its_glance, its_look, its_verdict}
-use Rattle.air_report.specs.declared.reading.kinds.FaultKind.{FaultKind}
-use Rattle.air_report.specs.declared.reading.lines.Line.{Line}
-use Rattle.air_report.specs.declared.reading.lines.Line.TheVariants as l
+use Rattle.air_report.specs.declared.reading.kinds.ReportFaultKind.{ReportFaultKind}
+use Rattle.air_report.specs.declared.reading.lines.ReportLine.{ReportLine}
+use Rattle.air_report.specs.declared.reading.lines.ReportLine.TheVariants as l
 use Rattle.air_report.specs.RecordRows.{row_in, rows_of}
 use Rattle.air_report.proofs.LineOrder.{in_order, together}
 
 -- What is told of records hangs on what they spell.
-by_lines : {X : Type 0} (f : ℕ → Result Line FaultKind → Option X) (version n : ℕ) (rows : List (List (List ℕ))) (lines : List Line) → map (spelled_line version) rows ≡ map Ok lines →
+by_lines : {X : Type 0} (f : ℕ → Result ReportLine ReportFaultKind → Option X) (version n : ℕ) (rows : List (List (List ℕ))) (lines : List ReportLine) → map (spelled_line version) rows ≡ map Ok lines →
     filter_map (λ p. f p.0 (spelled_line version p.1)) (enumerate_from n rows) ≡ filter_map (λ p. f p.0 (Ok p.1)) (enumerate_from n lines)
 by_lines f version n [] [] e = refl
 by_lines f version n [] (line ∷ lines) e = cc e
@@ -24,22 +24,22 @@ by_lines f version n (row ∷ rows) (line ∷ lines) e =
     let more : map (spelled_line version) rows ≡ map Ok lines = cc e in
     rw (here, by_lines f version (n + 1) rows lines more) refl
 
-module _ {X : Type 0} (f : ℕ → Line → Option X) where
-  abbrev pub all_of : ℕ → List Line → List X
+module _ {X : Type 0} (f : ℕ → ReportLine → Option X) where
+  abbrev pub all_of : ℕ → List ReportLine → List X
   all_of n lines = filter_map (λ p. f p.0 p.1) (enumerate_from n lines)
 
   one_then : (o : Option X) (xs ys : List X) → cons_option o (xs ++ ys) ≡ cons_option o xs ++ ys
   one_then None xs ys = refl
   one_then (Some x) xs ys = refl
 
-  joined : (n : ℕ) (xs ys : List Line) → all_of n (xs ++ ys) ≡ all_of n xs ++ all_of (n + length xs) ys
+  joined : (n : ℕ) (xs ys : List ReportLine) → all_of n (xs ++ ys) ≡ all_of n xs ++ all_of (n + length xs) ys
   joined n [] ys = ap (λ m. all_of m ys) (omega arith)
   joined n (x ∷ xs) ys =
       let place : n + 1 + length xs ≡ n + length (x ∷ xs) = omega arith in
       ap (cons_option (f n x)) (joined (n + 1) xs ys ∙ ap (λ m. all_of (n + 1) xs ++ all_of m ys) place)
       ∙ one_then (f n x) (all_of (n + 1) xs) (all_of (n + length (x ∷ xs)) ys)
 
-  module _ {L : Type 0} (wrap : L → Line) where
+  module _ {L : Type 0} (wrap : L → ReportLine) where
     pub nothing : (n : ℕ) (xs : List L) → ((row : ℕ) (x : L) → f row (wrap x) ≡ None) → all_of n (map wrap xs) ≡ []
     nothing n [] none = refl
     nothing n (x ∷ xs) none = rw (none n x) (nothing (n + 1) xs none)
@@ -71,7 +71,7 @@ module _ {X : Type 0} (f : ℕ → Line → Option X) where
       joined 1 (E ++ V ++ C ++ G) K ∙ ap (λ x. all_of 1 (E ++ V ++ C ++ G) ++ all_of x K) ek ∙ ap (λ xs. xs ++ all_of k K) e4
 
 -- What is told of the records of a text that spells lines is told of these lines, in their order.
-pub by_records : {X : Type 0} (f : ℕ → Result Line FaultKind → Option X) (deck : Deck) (text : List ℕ) (lines : ReportLines) → SpellsLines deck text lines →
+pub by_records : {X : Type 0} (f : ℕ → Result ReportLine ReportFaultKind → Option X) (deck : Deck) (text : List ℕ) (lines : ReportLines) → SpellsLines deck text lines →
     filter_map (λ p. f p.0 (spelled_line deck.settings.version p.1)) (enumerate_from 1 (records_of text)) ≡ all_of (λ row line. f row (Ok line)) 1 (together lines)
 unfolding SpellsLines
 by_records f deck text lines spelled = by_lines f deck.settings.version 1 (records_of text) (together lines) (in_order deck (records_of text) lines spelled)
@@ -89,7 +89,7 @@ back_none : {X : Type 0} (xs ys : List X) → ys ≡ [] → xs ++ ys ≡ xs
 back_none xs ys none = ap (λ zs. xs ++ zs) none ∙ append-nil xs
 
 module _ (deck : Deck) (text : List ℕ) (lines : ReportLines) (spelled : SpellsLines deck text lines) where
-  abbrev told : {L : Type 0} → (Line → Option L) → ℕ → Line → Option ℕ
+  abbrev told : {L : Type 0} → (ReportLine → Option L) → ℕ → ReportLine → Option ℕ
   told its row line = row_in its row (Ok line)
 
   -- The rows of each section are those from the number of lines before it on.

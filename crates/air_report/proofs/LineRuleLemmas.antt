@@ -12,12 +12,12 @@ use Rattle.item_catalog.specs.RecordKinds.{first_of}
 use Rattle.air_report.specs.LineFaults.{comes_after_later_section, is_begun, is_known, is_next, leads, read_item}
 use Rattle.air_report.specs.ReportLines.{ReportLines, commits_by, commits_of, starts_in, starts_cycle}
 use Rattle.air_report.specs.Private.RecordAnswers.{CanPush, line_record_kind}
-use Rattle.air_report.specs.declared.reading.kinds.FaultKind.{FaultKind}
-use Rattle.air_report.specs.declared.reading.kinds.FaultKind.TheVariants as fault
+use Rattle.air_report.specs.declared.reading.kinds.ReportFaultKind.{ReportFaultKind}
+use Rattle.air_report.specs.declared.reading.kinds.ReportFaultKind.TheVariants as fault
 use Rattle.air_report.specs.declared.reading.lines.EventLine.{EventLine}
 use Rattle.air_report.specs.declared.reading.lines.EventLine.TheVariants.{Commit, Start}
-use Rattle.air_report.specs.declared.reading.lines.Line.{Line}
-use Rattle.air_report.specs.declared.reading.lines.Line.TheVariants as l
+use Rattle.air_report.specs.declared.reading.lines.ReportLine.{ReportLine}
+use Rattle.air_report.specs.declared.reading.lines.ReportLine.TheVariants as l
 
 -- A query at its end has no item for a further read.
 pub leads_none : (reads : List ReadOf) (i : ℕ) (left : List ℕ) → i < length reads → left ≡ [] → leads (map read_item (drop i reads)) left ≡ false
@@ -51,7 +51,7 @@ commits_more made events by seq k n below at own next = elim (cases_eq k by) [
 
 -- ---- a line to which no kind applies
 
-second : (a b : FaultKind) (p q : Bool) (rest : List (FaultKind × Bool)) → first_of ((a, p) ∷ (b, q) ∷ rest) ≡ None → q ≡ false
+second : (a b : ReportFaultKind) (p q : Bool) (rest : List (ReportFaultKind × Bool)) → first_of ((a, p) ∷ (b, q) ∷ rest) ≡ None → q ≡ false
 second a b true q rest h = cc h
 second a b false true rest h = cc h
 second a b false false rest h = refl
@@ -67,9 +67,9 @@ next_parts deck before by seq few h =
     let same : seq ≡ commits_by by before = grind (arith, nat_tests, both.0) in
     (elim (cases_lt by (length deck.updates)) [ inl below ↦ omega arith | inr past ↦ absurd (omega (arith, less, ap length (get_or_past deck.updates by [] past))) ], same)
 
-pub can_push : (deck : Deck) (before : ReportLines) (line : Line) → length deck.updates ≤ MOST_UPDATERS → line_record_kind deck before (Ok line) ≡ None → CanPush before line
+pub can_push : (deck : Deck) (before : ReportLines) (line : ReportLine) → length deck.updates ≤ MOST_UPDATERS → line_record_kind deck before (Ok line) ≡ None → CanPush before line
 can_push deck before (l.Event (Commit by seq)) few none =
-    let line : Line = l.Event (Commit by seq) in
+    let line : ReportLine = l.Event (Commit by seq) in
     next_parts deck before.events by seq few (not_false (is_next deck before.events (Commit by seq))
     (second fault.Order fault.Update (comes_after_later_section before line) (not (is_next deck before.events (Commit by seq)))
     ((fault.Deck, not (is_known deck line)) ∷ (fault.Cycle, not (is_begun (starts_in before.events) line)) ∷ []) none))

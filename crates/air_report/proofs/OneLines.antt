@@ -9,8 +9,8 @@ use Rattle.air_model.specs.declared.reports.LookLine.{LookLine}
 use Rattle.air_report.specs.LineFaults.{is_begun, is_known}
 use Rattle.air_report.specs.ReportLines.{ReportLines, lines_in, sections_of}
 use Rattle.air_report.specs.ReportRules.{CyclesBegun, IsKnown, IsTried}
-use Rattle.air_report.specs.declared.reading.lines.Line.{Line}
-use Rattle.air_report.specs.declared.reading.lines.Line.TheVariants as l
+use Rattle.air_report.specs.declared.reading.lines.ReportLine.{ReportLine}
+use Rattle.air_report.specs.declared.reading.lines.ReportLine.TheVariants as l
 use Rattle.air_report.proofs.PrintedGrammar.{VerdictBegun, is_tried_of, is_verdict_begun, tried, verdict_begun}
 use Rattle.air_report.proofs.PrintedReports.{own_line}
 
@@ -27,14 +27,14 @@ module _ (deck : Deck) where
   abbrev LookKnown : LookLine → Type 0
   LookKnown x = x.monitor < deck.settings.monitors
 
-  pub known_one : (x : Line) → is_known deck x ≡ true → IsKnown deck (own_line deck x)
+  pub known_one : (x : ReportLine) → is_known deck x ≡ true → IsKnown deck (own_line deck x)
   known_one (l.Event x) h = record { verdicts = All-nil (IsTried deck); counts = All-nil CountsKnown; glances = All-nil LookKnown; looks = All-nil LookKnown }
   known_one (l.Verdict x) h = record { verdicts = one (IsTried deck) x (tried deck x h); counts = All-nil CountsKnown; glances = All-nil LookKnown; looks = All-nil LookKnown }
   known_one (l.Counts x) h = record { verdicts = All-nil (IsTried deck); counts = one CountsKnown x (ltb-true x.reader (length deck.readers) h); glances = All-nil LookKnown; looks = All-nil LookKnown }
   known_one (l.Glance x) h = record { verdicts = All-nil (IsTried deck); counts = All-nil CountsKnown; glances = one LookKnown x (ltb-true x.monitor deck.settings.monitors h); looks = All-nil LookKnown }
   known_one (l.Look x) h = record { verdicts = All-nil (IsTried deck); counts = All-nil CountsKnown; glances = All-nil LookKnown; looks = one LookKnown x (ltb-true x.monitor deck.settings.monitors h) }
 
-  pub known_told : (x : Line) (line : Report) → lines_in line ≡ sections_of (x ∷ []) → IsKnown deck line → is_known deck x ≡ true
+  pub known_told : (x : ReportLine) (line : Report) → lines_in line ≡ sections_of (x ∷ []) → IsKnown deck line → is_known deck x ≡ true
   known_told (l.Event x) line same k = refl
   known_told (l.Verdict x) line same k = is_tried_of deck x (first (IsTried deck) line.verdicts x (ap (λ (r : ReportLines). r.verdicts) same) k.verdicts)
   known_told (l.Counts x) line same k = lt-ltb x.reader (length deck.readers) (first CountsKnown line.counts x (ap (λ (r : ReportLines). r.counts) same) k.counts)
@@ -45,14 +45,14 @@ module _ (deck : Deck) where
     abbrev LookBegun : LookLine → Type 0
     LookBegun x = x.cycle ≤ starts
 
-    pub begun_one : (x : Line) → is_begun starts x ≡ true → CyclesBegun starts (own_line deck x)
+    pub begun_one : (x : ReportLine) → is_begun starts x ≡ true → CyclesBegun starts (own_line deck x)
     begun_one (l.Event x) h = record { verdicts = All-nil (VerdictBegun starts); glances = All-nil LookBegun; looks = All-nil LookBegun }
     begun_one (l.Verdict x) h = record { verdicts = one (VerdictBegun starts) x (verdict_begun starts x h); glances = All-nil LookBegun; looks = All-nil LookBegun }
     begun_one (l.Counts x) h = record { verdicts = All-nil (VerdictBegun starts); glances = All-nil LookBegun; looks = All-nil LookBegun }
     begun_one (l.Glance x) h = record { verdicts = All-nil (VerdictBegun starts); glances = one LookBegun x (leb-true x.cycle starts h); looks = All-nil LookBegun }
     begun_one (l.Look x) h = record { verdicts = All-nil (VerdictBegun starts); glances = All-nil LookBegun; looks = one LookBegun x (leb-true x.cycle starts h) }
 
-    pub begun_told : (x : Line) (line : Report) → lines_in line ≡ sections_of (x ∷ []) → CyclesBegun starts line → is_begun starts x ≡ true
+    pub begun_told : (x : ReportLine) (line : Report) → lines_in line ≡ sections_of (x ∷ []) → CyclesBegun starts line → is_begun starts x ≡ true
     begun_told (l.Event x) line same b = refl
     begun_told (l.Verdict x) line same b = is_verdict_begun starts x (first (VerdictBegun starts) line.verdicts x (ap (λ (r : ReportLines). r.verdicts) same) b.verdicts)
     begun_told (l.Counts x) line same b = refl

@@ -14,7 +14,7 @@ use Rattle.air_model.specs.declared.reports.VerdictLine.{VerdictLine}
 use Rattle.air_report.specs.LineTexts.{spelled_line}
 use Rattle.air_report.specs.ReportGrammar.{Applies, IsLineOf, NoLine, due_length, joined, row_lengths}
 use Rattle.air_report.specs.ReportRules.{CountsWide, EndWide, EventWide, CyclesBegun, IsKnown, IsReport, IsTried, LookWide, MayEnd, VerdictWide, its_attempt}
-use Rattle.air_report.specs.declared.reading.kinds.FaultKind.TheVariants as fault
+use Rattle.air_report.specs.declared.reading.kinds.ReportFaultKind.TheVariants as fault
 use Rattle.air_report.proofs.PrintedReports.{line_is}
 use Rattle.air_report.proofs.PrintedFields.{Row, all_told, line_spelled}
 use Rattle.air_report.proofs.SpelledExamples.{report, spells_report}

@@ -3,7 +3,7 @@
 use Rattle.std.proofs.Common.{◌≡◌, ◌≢◌, ◌∷◌, ◌⊎◌, [], ℕ, List, Option, Some, None, Result, Ok, Err, Bool, true, false, inl, inr, refl, ap, ◌∙◌, subst, codes, length, arith}
 use Rattle.air_base.specs.NumberLists.{list_of}
 use Rattle.air_base.specs.Numbers.{number_of, number_text}
-use Rattle.air_base.specs.Pieces.{three_of, two_of}
+use Rattle.air_base.specs.Parts.{three_of, two_of}
 use Rattle.air_base.specs.declared.verdicts.ReadOf.{ReadOf}
 use Rattle.air_base.specs.declared.verdicts.VerdictKind.{VerdictKind}
 use Rattle.air_base.specs.declared.verdicts.VerdictKind.TheVariants as kind
@@ -17,12 +17,12 @@ use Rattle.air_report.specs.LineFaults.{may_end}
 use Rattle.air_report.specs.LineRules.{LineWide}
 use Rattle.air_report.specs.LineTexts.{abort_by, abort_of, aged_by, aged_of, as_line, commit_by, counts_by, ended_by, seen_by, short_of, spelled_item, spelled_line, spelled_place, spelled_read, start_by}
 use Rattle.air_report.specs.ReportRules.{CountsWide, EndWide, LookWide, VerdictWide}
-use Rattle.air_report.specs.declared.reading.kinds.FaultKind.{FaultKind}
-use Rattle.air_report.specs.declared.reading.kinds.FaultKind.TheVariants as fault
+use Rattle.air_report.specs.declared.reading.kinds.ReportFaultKind.{ReportFaultKind}
+use Rattle.air_report.specs.declared.reading.kinds.ReportFaultKind.TheVariants as fault
 use Rattle.air_report.specs.declared.reading.lines.EventLine.{EventLine}
 use Rattle.air_report.specs.declared.reading.lines.EventLine.TheVariants.{Commit, Start}
-use Rattle.air_report.specs.declared.reading.lines.Line.{Line}
-use Rattle.air_report.specs.declared.reading.lines.Line.TheVariants as l
+use Rattle.air_report.specs.declared.reading.lines.ReportLine.{ReportLine}
+use Rattle.air_report.specs.declared.reading.lines.ReportLine.TheVariants as l
 use Rattle.air_report.proofs.PrintedReads.{item_is, number_is, place_is, reads_are, same_cons, short_is}
 use Rattle.air_report.proofs.TextLemmas.{aged_untold, counts_spelled, glance_spelled, look_spelled, short_text, verdict_spelled}
 
@@ -35,14 +35,14 @@ abbrev pub event_line_row : EventLine → Row
 event_line_row (Commit by seq) = codes "commit" ∷ number_text by ∷ number_text seq ∷ []
 event_line_row Start = codes "start" ∷ []
 
-abbrev pub line_row : Line → Row
+abbrev pub line_row : ReportLine → Row
 line_row (l.Event x) = event_line_row x
 line_row (l.Verdict x) = verdict_row x
 line_row (l.Counts x) = counts_row x
 line_row (l.Glance x) = look_row (codes "glance") x
 line_row (l.Look x) = look_row (codes "look") x
 
-abbrev pub Wide : Line → Type 0
+abbrev pub Wide : ReportLine → Type 0
 Wide (l.Event x) = LineWide x
 Wide (l.Verdict x) = VerdictWide x
 Wide (l.Counts x) = CountsWide x
@@ -50,17 +50,17 @@ Wide (l.Glance x) = LookWide x
 Wide (l.Look x) = LookWide x
 
 -- The row is that of the line, whose numbers fit.
-pub record Printed (row : Row) (x : Line) : Type 0 where
+pub record Printed (row : Row) (x : ReportLine) : Type 0 where
   pub row_is : row ≡ line_row x
   pub wide : Wide x
 
 -- The version has the tag of the line.
-abbrev pub is_told : ℕ → Line → Bool
+abbrev pub is_told : ℕ → ReportLine → Bool
 is_told version (l.Verdict x) = may_end version x.verdict.kind
 is_told version line = true
 
 -- What the row of a line spells.
-pub line_spelled : (version : ℕ) (x : Line) → Wide x → is_told version x ≡ true → spelled_line version (line_row x) ≡ Ok x
+pub line_spelled : (version : ℕ) (x : ReportLine) → Wide x → is_told version x ≡ true → spelled_line version (line_row x) ≡ Ok x
 line_spelled version (l.Event (Commit by seq)) w told = rw (short_text by w.0, short_text seq w.1) refl
 line_spelled version (l.Event Start) w told = refl
 line_spelled version (l.Verdict x) w told = verdict_spelled version x w told
@@ -69,7 +69,7 @@ line_spelled version (l.Glance x) w told = glance_spelled version x w
 line_spelled version (l.Look x) w told = look_spelled version x w
 
 -- From version 2 on each line has its tag.
-pub all_told : (x : Line) → is_told 2 x ≡ true
+pub all_told : (x : ReportLine) → is_told 2 x ≡ true
 all_told (l.Event x) = refl
 all_told (l.Verdict x) = by x.verdict.kind
   where
@@ -83,7 +83,7 @@ all_told (l.Glance x) = refl
 all_told (l.Look x) = refl
 
 -- The row of a line spells it, or has no tag.
-pub spelled_or_untold : (version : ℕ) (x : Line) → Wide x → (spelled_line version (line_row x) ≡ Ok x) ⊎ (spelled_line version (line_row x) ≡ Err fault.Tag)
+pub spelled_or_untold : (version : ℕ) (x : ReportLine) → Wide x → (spelled_line version (line_row x) ≡ Ok x) ⊎ (spelled_line version (line_row x) ≡ Err fault.Tag)
 spelled_or_untold version (l.Event x) w = inl (line_spelled version (l.Event x) w refl)
 spelled_or_untold version (l.Verdict x) w = by x.verdict.kind refl
   where
@@ -103,7 +103,7 @@ spelled_or_untold version (l.Look x) w = inl (line_spelled version (l.Look x) w 
 -- ---- what fields tell behind a tag
 
 -- Behind a tag whose rows have so many fields: a line, whose row it is; or another length; or no form.
-abbrev pub Told : Row → ℕ → Result Line FaultKind → Type 0
+abbrev pub Told : Row → ℕ → Result ReportLine ReportFaultKind → Type 0
 Told row n (Ok x) = (length row ≡ n) × Printed row x
 Told row n (Err fault.Fields) = length row ≢ n
 Told row n (Err fault.Form) = length row ≡ n
@@ -270,7 +270,7 @@ counts_told (f ∷ g ∷ i ∷ j ∷ k ∷ m ∷ n ∷ []) = by (short_of f) (nu
           },
         )
 
-pub seen_told : (tag : List ℕ) (wrap : LookLine → Line) → ((x : LookLine) → look_row tag x ≡ line_row (wrap x)) → ((x : LookLine) → LookWide x → Wide (wrap x)) → (fields : Row)
+pub seen_told : (tag : List ℕ) (wrap : LookLine → ReportLine) → ((x : LookLine) → look_row tag x ≡ line_row (wrap x)) → ((x : LookLine) → LookWide x → Wide (wrap x)) → (fields : Row)
     → Told (tag ∷ fields) 4 (as_line wrap (seen_by (three_of fields)))
 seen_told tag wrap own fits [] = λ h. omega (arith, h)
 seen_told tag wrap own fits (f ∷ []) = λ h. omega (arith, h)

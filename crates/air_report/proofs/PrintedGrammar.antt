@@ -25,17 +25,17 @@ use Rattle.air_report.specs.LineRules.{InGrammar}
 use Rattle.air_report.specs.ReportLines.{ReportLines, event_in, its_line, lines_in, report_in, starts_cycle, starts_in}
 use Rattle.air_report.specs.ReportRules.{CyclesBegun, HasWidths, IsKnown, IsReport, IsTried, MayEnd}
 use Rattle.air_report.specs.declared.reading.lines.EventLine.TheVariants as line
-use Rattle.air_report.specs.declared.reading.lines.Line.TheVariants as l
+use Rattle.air_report.specs.declared.reading.lines.ReportLine.TheVariants as l
 use Rattle.air_report.proofs.LegalLines.{legal}
 use Rattle.air_report.proofs.PrintedReports.{named_back}
 use Rattle.air_report.proofs.SameHistories.{legal_next}
 
 -- ---- queries
 
-front_same : (items query : List ℕ) → leads items query ≡ pointwise nat_eq items (take (length items) query)
-front_same [] query = refl
-front_same (x ∷ items) [] = refl
-front_same (x ∷ items) (y ∷ query) = ap (λ b. (x == y) && b) (front_same items query)
+leading_same : (items query : List ℕ) → leads items query ≡ pointwise nat_eq items (take (length items) query)
+leading_same [] query = refl
+leading_same (x ∷ items) [] = refl
+leading_same (x ∷ items) (y ∷ query) = ap (λ b. (x == y) && b) (leading_same items query)
 
 next_same : (a b : ℕ) → (suc a == suc b) ≡ (a == b)
 next_same a b = elim (cases_eq a b) [
@@ -70,12 +70,12 @@ unfolding follows_query
 same_follow query items Accept = whole_same items query
 same_follow query items (Abort item cycle clash) =
     let test = list_any (λ other. other == clash) items in let next = option_map_or (λ next. next == item) (slice_get query (length items)) false in
-    and_again (leads items query) next test ∙ ap (λ b. b && (next && test)) (front_same items query)
+    and_again (leads items query) next test ∙ ap (λ b. b && (next && test)) (leading_same items query)
     ∙ ap (λ b. pointwise nat_eq items (take (length items) query) && (b && test)) (wanted_same (slice_get query (length items)) item)
 same_follow query items (Aged item cycle) =
     let next = option_map_or (λ next. next == item) (slice_get query (length items)) false in
-    ap (λ b. b && next) (front_same items query) ∙ ap (λ b. pointwise nat_eq items (take (length items) query) && b) (wanted_same (slice_get query (length items)) item)
-same_follow query items Unfinished = ap (λ b. b && nat_lt (length items) (length query)) (front_same items query)
+    ap (λ b. b && next) (leading_same items query) ∙ ap (λ b. pointwise nat_eq items (take (length items) query) && b) (wanted_same (slice_get query (length items)) item)
+same_follow query items Unfinished = ap (λ b. b && nat_lt (length items) (length query)) (leading_same items query)
 
 -- ---- attempts
 

@@ -6,7 +6,7 @@ use Rattle.air_base.specs.NumberLists.{list_of, list_text, parts_of}
 use Rattle.air_base.specs.Numbers.{number_of, number_text}
 use Rattle.air_base.specs.declared.verdicts.ReadOf.{ReadOf}
 use Rattle.air_base.proofs.ListLaws.{Some-all_some, list_text-parts_of}
-use Rattle.air_base.proofs.NumberFronts.{spelled_fits}
+use Rattle.air_base.proofs.LeadingNumberLemmas.{spelled_fits}
 use Rattle.air_base.proofs.NumberLemmas.{one_spelling}
 use Rattle.air_model.specs.Reports.{place_text, read_text}
 use Rattle.air_report.specs.LineTexts.{below, short_of, spelled_item, spelled_place, spelled_read}

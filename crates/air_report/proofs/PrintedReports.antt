@@ -18,8 +18,8 @@ use Rattle.air_report.specs.ReportRules.{CountsWide, EventWide, HasWidths, LookW
 use Rattle.air_report.specs.Private.RecordAnswers.{with_one_line}
 use Rattle.air_report.specs.declared.reading.lines.EventLine.{EventLine}
 use Rattle.air_report.specs.declared.reading.lines.EventLine.TheVariants.{Commit, Start}
-use Rattle.air_report.specs.declared.reading.lines.Line.{Line}
-use Rattle.air_report.specs.declared.reading.lines.Line.TheVariants as l
+use Rattle.air_report.specs.declared.reading.lines.ReportLine.{ReportLine}
+use Rattle.air_report.specs.declared.reading.lines.ReportLine.TheVariants as l
 use Rattle.air_report.proofs.LineOrder.{together}
 use Rattle.air_report.proofs.PrintedFields.{Printed, Row, Wide, all_told, line_row, line_spelled}
 use Rattle.air_report.proofs.PrintedReads.{same_append, same_cons}
@@ -27,7 +27,7 @@ use Rattle.air_report.proofs.PrintedRows.{printed}
 
 -- ---- rows
 
-mapped : {L : Type 0} (wrap : L → Line) (row : L → Row) → ((x : L) → line_row (wrap x) ≡ row x) → (xs : List L) → map line_row (map wrap xs) ≡ map row xs
+mapped : {L : Type 0} (wrap : L → ReportLine) (row : L → Row) → ((x : L) → line_row (wrap x) ≡ row x) → (xs : List L) → map line_row (map wrap xs) ≡ map row xs
 mapped wrap row same [] = refl
 mapped wrap row same (x ∷ xs) = same_cons (same x) (mapped wrap row same xs)
 
@@ -50,7 +50,7 @@ rows_of_lines r =
     (mapped l.Look (look_row (codes "look")) (λ x. refl) r.looks)
 
 -- Records that spell lines are the rows of these.
-pub lines_of_rows : (version : ℕ) (rows : List Row) (lines : List Line) → map (spelled_line version) rows ≡ map Ok lines → (rows ≡ map line_row lines) × All Wide lines
+pub lines_of_rows : (version : ℕ) (rows : List Row) (lines : List ReportLine) → map (spelled_line version) rows ≡ map Ok lines → (rows ≡ map line_row lines) × All Wide lines
 lines_of_rows version [] [] h = (refl, All-nil Wide)
 lines_of_rows version [] (x ∷ lines) h = cc h
 lines_of_rows version (row ∷ rows) [] h = cc h
@@ -60,11 +60,11 @@ lines_of_rows version (row ∷ rows) (x ∷ lines) h =
     (same_cons one.row_is rest.0, All-cons Wide x lines one.wide rest.1)
 
 -- A line is told by its row: from version 2 on its row spells it.
-pub row_tells : (x y : Line) → Wide x → Wide y → line_row x ≡ line_row y → x ≡ y
+pub row_tells : (x y : ReportLine) → Wide x → Wide y → line_row x ≡ line_row y → x ≡ y
 row_tells x y a b h = let told = sym (line_spelled 2 x a (all_told x)) ∙ ap (spelled_line 2) h ∙ line_spelled 2 y b (all_told y) in cc told
 
 -- Lines are told by their rows.
-pub rows_tell : (xs ys : List Line) → All Wide xs → All Wide ys → map line_row xs ≡ map line_row ys → xs ≡ ys
+pub rows_tell : (xs ys : List ReportLine) → All Wide xs → All Wide ys → map line_row xs ≡ map line_row ys → xs ≡ ys
 rows_tell [] [] a b h = refl
 rows_tell [] (y ∷ ys) a b h = cc h
 rows_tell (x ∷ xs) [] a b h = cc h
@@ -74,11 +74,11 @@ rows_tell (x ∷ xs) (y ∷ ys) a b h =
 
 -- ---- widths
 
-wrapped : {L : Type 0} (P : L → Type 0) (wrap : L → Line) → ((x : L) → P x → Wide (wrap x)) → (xs : List L) → All P xs → All Wide (map wrap xs)
+wrapped : {L : Type 0} (P : L → Type 0) (wrap : L → ReportLine) → ((x : L) → P x → Wide (wrap x)) → (xs : List L) → All P xs → All Wide (map wrap xs)
 wrapped P wrap fits [] a = All-nil Wide
 wrapped P wrap fits (x ∷ xs) a = All-cons Wide (wrap x) (map wrap xs) (fits x (All-head P x xs a)) (wrapped P wrap fits xs (All-tail P x xs a))
 
-unwrapped : {L : Type 0} (P : L → Type 0) (wrap : L → Line) → ((x : L) → Wide (wrap x) → P x) → (xs : List L) → All Wide (map wrap xs) → All P xs
+unwrapped : {L : Type 0} (P : L → Type 0) (wrap : L → ReportLine) → ((x : L) → Wide (wrap x) → P x) → (xs : List L) → All Wide (map wrap xs) → All P xs
 unwrapped P wrap fits [] a = All-nil P
 unwrapped P wrap fits (x ∷ xs) a = All-cons P x xs (fits x (All-head Wide (wrap x) (map wrap xs) a)) (unwrapped P wrap fits xs (All-tail Wide (wrap x) (map wrap xs) a))
 
@@ -145,15 +145,15 @@ joined_wide r s v w = record {
 
 -- ---- sections
 
-own : {L : Type 0} (its : Line → Option L) (wrap : L → Line) → ((x : L) → its (wrap x) ≡ Some x) → (xs : List L) → filter_map its (map wrap xs) ≡ xs
+own : {L : Type 0} (its : ReportLine → Option L) (wrap : L → ReportLine) → ((x : L) → its (wrap x) ≡ Some x) → (xs : List L) → filter_map its (map wrap xs) ≡ xs
 own its wrap some [] = refl
 own its wrap some (x ∷ xs) = rw (some x, own its wrap some xs) refl
 
-others : {L M : Type 0} (its : Line → Option M) (wrap : L → Line) → ((x : L) → its (wrap x) ≡ None) → (xs : List L) → filter_map its (map wrap xs) ≡ []
+others : {L M : Type 0} (its : ReportLine → Option M) (wrap : L → ReportLine) → ((x : L) → its (wrap x) ≡ None) → (xs : List L) → filter_map its (map wrap xs) ≡ []
 others its wrap none [] = refl
 others its wrap none (x ∷ xs) = rw (none x) (others its wrap none xs)
 
-by_parts : {X : Type 0} (its : Line → Option X) (r : ReportLines) (e v c g k : List X) → filter_map its (map l.Event r.events) ≡ e → filter_map its (map l.Verdict r.verdicts) ≡ v
+by_parts : {X : Type 0} (its : ReportLine → Option X) (r : ReportLines) (e v c g k : List X) → filter_map its (map l.Event r.events) ≡ e → filter_map its (map l.Verdict r.verdicts) ≡ v
     → filter_map its (map l.Counts r.counts) ≡ c → filter_map its (map l.Glance r.glances) ≡ g → filter_map its (map l.Look r.looks) ≡ k → filter_map its (together r) ≡ e ++ v ++ c ++ g ++ k
 by_parts its r e v c g k he hv hc hg hk =
     let E = map l.Event r.events in let V = map l.Verdict r.verdicts in let C = map l.Counts r.counts in let G = map l.Glance r.glances in let K = map l.Look r.looks in
@@ -193,10 +193,10 @@ lines_back deck lines = ap (λ es. record lines { events = es }) (named_back dec
 -- ---- single lines
 
 -- The row of a line is printed of one line, which is all that stands in the report's sections.
-pub line_is : (row : Row) (line : Report) → IsLineOf row line → (x : Line) × Printed row x × (lines_in line ≡ sections_of (x ∷ []))
+pub line_is : (row : Row) (line : Report) → IsLineOf row line → (x : ReportLine) × Printed row x × (lines_in line ≡ sections_of (x ∷ []))
 line_is row line is = by (together (lines_in line)) refl (rows_of_lines line ∙ is.rows) (all_wide line is.widths)
   where
-    by : (ls : List Line) → together (lines_in line) ≡ ls → map line_row ls ≡ row ∷ [] → All Wide ls → (x : Line) × Printed row x × (lines_in line ≡ sections_of (x ∷ []))
+    by : (ls : List ReportLine) → together (lines_in line) ≡ ls → map line_row ls ≡ row ∷ [] → All Wide ls → (x : ReportLine) × Printed row x × (lines_in line ≡ sections_of (x ∷ []))
     by [] e h w = cc h
     by (x ∷ []) e h w =
         let here : line_row x ≡ row = cc h in
@@ -204,10 +204,10 @@ line_is row line is = by (together (lines_in line)) refl (rows_of_lines line ∙
     by (x ∷ y ∷ ls) e h w = cc h
 
 -- The report of a line alone, its updates the deck's.
-abbrev pub own_line : Deck → Line → Report
+abbrev pub own_line : Deck → ReportLine → Report
 own_line deck x = report_in deck (sections_of (x ∷ []))
 
-pub own_row : (deck : Deck) (x : Line) → report_rows (own_line deck x) ≡ line_row x ∷ []
+pub own_row : (deck : Deck) (x : ReportLine) → report_rows (own_line deck x) ≡ line_row x ∷ []
 own_row deck (l.Event (Commit by seq)) = refl
 own_row deck (l.Event Start) = refl
 own_row deck (l.Verdict x) = refl
@@ -215,18 +215,18 @@ own_row deck (l.Counts x) = refl
 own_row deck (l.Glance x) = refl
 own_row deck (l.Look x) = refl
 
-one_wide : (x : Line) → Wide x → All Wide (together (sections_of (x ∷ [])))
+one_wide : (x : ReportLine) → Wide x → All Wide (together (sections_of (x ∷ [])))
 one_wide (l.Event x) w = All-cons Wide (l.Event x) [] w (All-nil Wide)
 one_wide (l.Verdict x) w = All-cons Wide (l.Verdict x) [] w (All-nil Wide)
 one_wide (l.Counts x) w = All-cons Wide (l.Counts x) [] w (All-nil Wide)
 one_wide (l.Glance x) w = All-cons Wide (l.Glance x) [] w (All-nil Wide)
 one_wide (l.Look x) w = All-cons Wide (l.Look x) [] w (All-nil Wide)
 
-pub own_is : (deck : Deck) (row : Row) (x : Line) → Printed row x → IsLineOf row (own_line deck x)
+pub own_is : (deck : Deck) (row : Row) (x : ReportLine) → Printed row x → IsLineOf row (own_line deck x)
 own_is deck row x is = record { rows = own_row deck x ∙ ap (λ r. r ∷ []) (sym is.row_is); widths = widths_of deck (sections_of (x ∷ [])) (one_wide x is.wide) }
 
 -- One line more behind a report.
-one_joined : (r : ReportLines) (x : Line) (s : ReportLines) → s ≡ sections_of (x ∷ [])
+one_joined : (r : ReportLines) (x : ReportLine) (s : ReportLines) → s ≡ sections_of (x ∷ [])
     → ◌≡◌ {A = ReportLines} (record { events = r.events ++ s.events; verdicts = r.verdicts ++ s.verdicts; counts = r.counts ++ s.counts; glances = r.glances ++ s.glances; looks = r.looks ++ s.looks }) (with_one_line r x)
 one_joined r (l.Event x) s is = rw is (same_sections refl (append-nil r.verdicts) (append-nil r.counts) (append-nil r.glances) (append-nil r.looks))
 one_joined r (l.Verdict x) s is = rw is (same_sections (append-nil r.events) refl (append-nil r.counts) (append-nil r.glances) (append-nil r.looks))
@@ -234,7 +234,7 @@ one_joined r (l.Counts x) s is = rw is (same_sections (append-nil r.events) (app
 one_joined r (l.Glance x) s is = rw is (same_sections (append-nil r.events) (append-nil r.verdicts) (append-nil r.counts) refl (append-nil r.looks))
 one_joined r (l.Look x) s is = rw is (same_sections (append-nil r.events) (append-nil r.verdicts) (append-nil r.counts) (append-nil r.glances) refl)
 
-pub lines_joined : (r line : Report) (x : Line) → lines_in line ≡ sections_of (x ∷ []) → lines_in (joined r line) ≡ with_one_line (lines_in r) x
+pub lines_joined : (r line : Report) (x : ReportLine) → lines_in line ≡ sections_of (x ∷ []) → lines_in (joined r line) ≡ with_one_line (lines_in r) x
 lines_joined r line x is =
     let J = joined r line in
     ap (λ es. let lines : ReportLines = record { events = es; verdicts = J.verdicts; counts = J.counts; glances = J.glances; looks = J.looks } in lines) (map-append its_line r.history line.history)

@@ -1,6 +1,6 @@
--- The place and the read that a text spells, by the digits at its front.
+-- The place and the read that a text spells, by its leading digits.
 --
--- `place_is` and `read_is` say what a text is that spells one, `place_made` and `read_made` that such a text does. `front_is`
+-- `place_is` and `read_is` say what a text is that spells one, `place_made` and `read_made` that such a text does. `leading_is`
 -- answers the reader of the first part, the others that of a whole place.
 use Rattle.std.proofs.Common.{◌≡◌, ◌++◌, ◌∷◌, [], ℕ, List, Option, Some, None, Bool, true, false, cond, not, refl, sym, ap, ◌∙◌, append_assoc, nat_lt, arith}
 use Rattle.std.specs.Prelude.{◌==◌, ◌^◌, drop}
@@ -9,16 +9,16 @@ use Rattle.std.specs.List.{list_all}
 use Rattle.std.proofs.lemmas.List.{append-nil}
 use Rattle.std.proofs.lemmas.List.Folds.{list_all-append}
 use Rattle.std.proofs.lemmas.Bool.Decides.{nat_tests}
-use Rattle.air_base.specs.LeadingParts.{FrontIs, after_digits, after_part, begins, behind, digits_of, first_part, is_no_space, leading_part}
+use Rattle.air_base.specs.LeadingParts.{LeadingIs, after_digits, after_part, begins, behind, digits_of, first_part, is_no_space, leading_part}
 use Rattle.air_base.specs.Numbers.{number_of}
-use Rattle.air_base.specs.Pieces.{cut_at, two_of}
+use Rattle.air_base.specs.Parts.{parts_at, two_of}
 use Rattle.air_base.specs.declared.verdicts.ReadOf.{ReadOf}
-use Rattle.air_base.proofs.Cuts.{Two, cut_none, cut_then, is_not, two_pieces}
-use Rattle.air_base.proofs.LeadingPartLemmas.{behind_past, front_behind, front_past}
-use Rattle.air_base.proofs.NumberFronts.{after_byte, all_such, part_with, spelled_digits}
+use Rattle.air_base.proofs.PartsAt.{Two, is_not, one_part, part_then, two_parts}
+use Rattle.air_base.proofs.LeadingPartLemmas.{behind_past, leading_behind, leading_past}
+use Rattle.air_base.proofs.LeadingNumberLemmas.{after_byte, all_such, part_with, spelled_digits}
 use Rattle.item_catalog.specs.Spelled.{spelled_then}
 use Rattle.air_report.specs.LineTexts.{below, short_of, spelled_item, spelled_place, spelled_read}
-use Rattle.air_report.specs.Private.ReadFronts.{leading_place, leading_read}
+use Rattle.air_report.specs.Private.LeadingReads.{leading_place, leading_read}
 
 -- ---- numbers
 
@@ -60,7 +60,7 @@ pub record PlaceText (text : List ℕ) (item cycle : ℕ) : Type 0 where
 
 pub place_is : (text : List ℕ) (p : ℕ × ℕ) → spelled_place text ≡ Some p → PlaceText text p.0 p.1
 unfolding spelled_place
-place_is text p h = by (two_of (cut_at 64 text)) (two_pieces 64 text) h
+place_is text p h = by (two_of (parts_at 64 text)) (two_parts 64 text) h
   where
     both : (s : List ℕ × List ℕ) → Two 64 text (Some s) → (i c : Option ℕ) → spelled_item s.0 ≡ i → short_of s.1 ≡ c
         → ◌≡◌ {A = Option (ℕ × ℕ)} (spelled_then i λ item. spelled_then c λ cycle. Some (item, cycle)) (Some p) → PlaceText text p.0 p.1
@@ -78,7 +78,7 @@ place_is text p h = by (two_of (cut_at 64 text)) (two_pieces 64 text) h
 pub place_made : (a b : List ℕ) (item cycle : ℕ) → spelled_item a ≡ Some item → short_of b ≡ Some cycle → ◌≡◌ {A = Option (ℕ × ℕ)} (spelled_place (a ++ 64 ∷ b)) (Some (item, cycle))
 unfolding spelled_place
 place_made a b item cycle ha hb =
-    rw (cut_then 64 a b (digits_are_not 64 refl a (item_digits a item ha)), cut_none 64 b (digits_are_not 64 refl b (short_digits b cycle hb)), ha, hb) refl
+    rw (part_then 64 a b (digits_are_not 64 refl a (item_digits a item ha)), one_part 64 b (digits_are_not 64 refl b (short_digits b cycle hb)), ha, hb) refl
 
 -- A text is that of a read.
 pub record ReadText (text : List ℕ) (read : ReadOf) : Type 0 where
@@ -95,7 +95,7 @@ read_by p value = record { item = p.0; cycle = p.1; value = value }
 
 pub read_is : (text : List ℕ) (r : ReadOf) → spelled_read text ≡ Some r → ReadText text r
 unfolding spelled_read
-read_is text r h = by (two_of (cut_at 61 text)) (two_pieces 61 text) h
+read_is text r h = by (two_of (parts_at 61 text)) (two_parts 61 text) h
   where
     both : (s : List ℕ × List ℕ) → Two 61 text (Some s) → (p : Option (ℕ × ℕ)) (v : Option ℕ) → spelled_place s.0 ≡ p → number_of s.1 ≡ v
         → (spelled_then p λ place. spelled_then v λ value. Some (read_by place value)) ≡ Some r → ReadText text r
@@ -124,20 +124,20 @@ unfolding spelled_read
 read_made a b q item cycle value ha hb hq =
     let da = item_digits a item ha in let db = short_digits b cycle hb in
     let none : list_all (is_not 61) (a ++ 64 ∷ b) ≡ true = list_all-append (is_not 61) a (64 ∷ b) ∙ rw (digits_are_not 61 refl a da, digits_are_not 61 refl b db) refl in
-    rw (← append_assoc a (64 ∷ b) (61 ∷ q), cut_then 61 (a ++ 64 ∷ b) q none, cut_none 61 q (digits_are_not 61 refl q (spelled_digits q value hq)), place_made a b item cycle ha hb, hq) refl
+    rw (← append_assoc a (64 ∷ b) (61 ∷ q), part_then 61 (a ++ 64 ∷ b) q none, one_part 61 q (digits_are_not 61 refl q (spelled_digits q value hq)), place_made a b item cycle ha hb, hq) refl
 
--- ---- digits at the front
+-- ---- leading digits
 
 digits_at : (a : List ℕ) (c : ℕ) (rest : List ℕ) → list_all is_ascii_digit a ≡ true → is_ascii_digit c ≡ false
     → (digits_of (a ++ c ∷ rest) ≡ a) × (after_digits (a ++ c ∷ rest) ≡ c ∷ rest)
 unfolding digits_of after_digits
 digits_at a c rest digits other =
-    (front_past is_ascii_digit a (c ∷ rest) digits ∙ rw other (append-nil a), behind_past is_ascii_digit a (c ∷ rest) digits ∙ rw other refl)
+    (leading_past is_ascii_digit a (c ∷ rest) digits ∙ rw other (append-nil a), behind_past is_ascii_digit a (c ∷ rest) digits ∙ rw other refl)
 
 digits_all : (a : List ℕ) → list_all is_ascii_digit a ≡ true → (digits_of a ≡ a) × (after_digits a ≡ [])
 unfolding digits_of after_digits
 digits_all a digits = (
-  ap (leading_part is_ascii_digit) (sym (append-nil a)) ∙ front_past is_ascii_digit a [] digits ∙ append-nil a,
+  ap (leading_part is_ascii_digit) (sym (append-nil a)) ∙ leading_past is_ascii_digit a [] digits ∙ append-nil a,
   ap (behind is_ascii_digit) (sym (append-nil a)) ∙ behind_past is_ascii_digit a [] digits,
 )
 
@@ -147,11 +147,11 @@ pub place_leads : (text : List ℕ) (p : ℕ × ℕ) → spelled_place text ≡ 
 unfolding leading_place
 place_leads text p h =
     let t = place_is text p h in
-    let at_front = digits_at t.first 64 t.second (item_digits t.first p.0 t.item_is) refl in
+    let at_leading = digits_at t.first 64 t.second (item_digits t.first p.0 t.item_is) refl in
     let back = digits_all t.second (short_digits t.second p.1 t.cycle_is) in
-    rw (t.text_is, at_front.0, at_front.1, t.item_is, back.0, back.1, t.cycle_is) refl
+    rw (t.text_is, at_leading.0, at_leading.1, t.item_is, back.0, back.1, t.cycle_is) refl
 
--- What stands at the front is a place, and what stands behind it.
+-- What a text begins with is a place, and what stands behind it.
 pub record Led (text : List ℕ) (item cycle : ℕ) (rest : List ℕ) : Type 0 where
   pub more : List ℕ
   pub item_is : spelled_item (digits_of text) ≡ Some item
@@ -159,7 +159,7 @@ pub record Led (text : List ℕ) (item cycle : ℕ) (rest : List ℕ) : Type 0 w
   pub cycle_is : short_of (digits_of more) ≡ Some cycle
   pub rest_is : after_digits more ≡ rest
 
--- The text behind this byte, where it stands at the front.
+-- The text behind this byte, where the text begins with it.
 abbrev behind_byte : ℕ → List ℕ → Option (List ℕ)
 behind_byte byte text = cond (begins byte text) (Some (drop 1 text)) None
 
@@ -196,7 +196,7 @@ led text item cycle rest h = by (spelled_item (digits_of text)) (behind_byte 64 
 
 text_whole : (text : List ℕ) → text ≡ digits_of text ++ after_digits text
 unfolding digits_of after_digits
-text_whole text = front_behind is_ascii_digit text
+text_whole text = leading_behind is_ascii_digit text
 
 pub whole_place : (text : List ℕ) (item cycle : ℕ) → ◌≡◌ {A = Option (ℕ × ℕ × List ℕ)} (leading_place text) (Some (item, cycle, [])) → ◌≡◌ {A = Option (ℕ × ℕ)} (spelled_place text) (Some (item, cycle))
 whole_place text item cycle h =
@@ -226,7 +226,7 @@ no_whole_place text item cycle byte more some = by (spelled_place text) refl
 
 part_whole : (text : List ℕ) → text ≡ first_part text ++ after_part text
 unfolding first_part after_part
-part_whole text = front_behind is_no_space text
+part_whole text = leading_behind is_no_space text
 
 digit_no_space : (c : ℕ) → is_ascii_digit c ≡ true → is_no_space c ≡ true
 digit_no_space c h = grind (arith, nat_tests)
@@ -244,7 +244,7 @@ part_of_digits : (q text : List ℕ) → list_all is_ascii_digit q ≡ true → 
 unfolding first_part after_part
 part_of_digits q text digits =
     let plain = all_such is_ascii_digit is_no_space digit_no_space q digits in let rest = behind_again text in (
-      front_past is_no_space q (behind is_no_space text) plain ∙ rw (rest.0) (append-nil q),
+      leading_past is_no_space q (behind is_no_space text) plain ∙ rw (rest.0) (append-nil q),
       behind_past is_no_space q (behind is_no_space text) plain ∙ rest.1,
     )
 
@@ -256,10 +256,10 @@ read_leads text r h =
     let value = part_of_digits t.third text (spelled_digits t.third r.value t.value_is) in
     let all : text ≡ t.first ++ 64 ∷ (t.second ++ 61 ∷ (t.third ++ z)) =
     part_whole text ∙ ap (λ l. l ++ z) t.text_is ∙ append_assoc t.first (64 ∷ (t.second ++ 61 ∷ t.third)) z ∙ ap (λ l. t.first ++ 64 ∷ l) (append_assoc t.second (61 ∷ t.third) z) in
-    let at_front = digits_at t.first 64 (t.second ++ 61 ∷ (t.third ++ z)) (item_digits t.first r.item t.item_is) refl in
+    let at_leading = digits_at t.first 64 (t.second ++ 61 ∷ (t.third ++ z)) (item_digits t.first r.item t.item_is) refl in
     let back = digits_at t.second 61 (t.third ++ z) (short_digits t.second r.cycle t.cycle_is) refl in
-    let d : digits_of text ≡ t.first = ap digits_of all ∙ at_front.0 in
-    let a : after_digits text ≡ 64 ∷ (t.second ++ 61 ∷ (t.third ++ z)) = ap after_digits all ∙ at_front.1 in
+    let d : digits_of text ≡ t.first = ap digits_of all ∙ at_leading.0 in
+    let a : after_digits text ≡ 64 ∷ (t.second ++ 61 ∷ (t.third ++ z)) = ap after_digits all ∙ at_leading.1 in
     rw (d, t.item_is, a, back.0, t.cycle_is, back.1, value.0, t.value_is, value.1) refl
 
 read_led : (text : List ℕ) (r : ReadOf) (rest : List ℕ) → ◌≡◌ {A = Option (ReadOf × List ℕ)} (leading_read text) (Some (r, rest))
@@ -289,11 +289,11 @@ read_led text r rest h = by (leading_place text) refl h
     by None ep h = cc h
     by (Some p) ep h = in_part p (behind_byte 61 p.2) ep refl h
 
--- The read of the first part is the one at the front.
-pub front_is : (text : List ℕ) (o : Option (ReadOf × List ℕ)) → leading_read text ≡ o → FrontIs spelled_read text o
-front_is text None none = by (spelled_read (first_part text)) refl
+-- The read of the first part is the leading one.
+pub leading_is : (text : List ℕ) (o : Option (ReadOf × List ℕ)) → leading_read text ≡ o → LeadingIs spelled_read text o
+leading_is text None none = by (spelled_read (first_part text)) refl
   where
     by : (r : Option ReadOf) → spelled_read (first_part text) ≡ r → r ≡ None
     by None e = refl
     by (Some r) e = cc (sym none ∙ read_leads text r e)
-front_is text (Some f) some = read_led text f.0 f.1 some
+leading_is text (Some f) some = read_led text f.0 f.1 some

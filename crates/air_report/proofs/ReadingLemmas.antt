@@ -8,14 +8,14 @@ use Rattle.item_catalog.proofs.RecordPlaces.{refused}
 use Rattle.air_report.specs.Kinds.{report_kind_number}
 use Rattle.air_report.specs.LineTexts.{spelled_line}
 use Rattle.air_report.specs.LineFaults.{line_kinds_at, spelled_lines}
-use Rattle.air_report.specs.LineGrammar.{HasLineFault, RowsSpellLines, SpellsLines}
+use Rattle.air_report.specs.LineGrammar.{HasLineFault, RecordsSpellLines, SpellsLines}
 use Rattle.air_report.specs.ReportLines.{sections_of}
 use Rattle.air_report.specs.Private.RecordAnswers.{line_record_kind}
-use Rattle.air_report.specs.declared.reading.kinds.FaultKind.{FaultKind}
+use Rattle.air_report.specs.declared.reading.kinds.ReportFaultKind.{ReportFaultKind}
 use Rattle.air_report.proofs.PlaceLemmas.{judge, least_after}
 
 module _ (deck : Deck) (text : List ℕ) (rows : List (List (List ℕ))) (before : NoneBefore (line_kinds_at deck rows) (length rows)) where
-  pub read_fault : (row : List (List ℕ)) (left : List (List (List ℕ))) (kind : FaultKind) → records_of text ≡ rows ++ row ∷ left
+  pub read_fault : (row : List (List ℕ)) (left : List (List (List ℕ))) (kind : ReportFaultKind) → records_of text ≡ rows ++ row ∷ left
       → line_record_kind deck (sections_of (spelled_lines deck.settings.version rows)) (spelled_line deck.settings.version row) ≡ Some kind → HasLineFault deck text (length rows + 1) (report_kind_number kind)
   unfolding HasLineFault line_kinds_at
   read_fault row left kind all h =
@@ -26,5 +26,5 @@ module _ (deck : Deck) (text : List ℕ) (rows : List (List (List ℕ))) (before
   pub read_all : records_of text ≡ rows ++ [] → SpellsLines deck text (sections_of (spelled_lines deck.settings.version rows))
   unfolding SpellsLines
   read_all all =
-      let P : List (List (List ℕ)) → Type 0 = λ all. RowsSpellLines deck all (sections_of (spelled_lines deck.settings.version rows)) in
+      let P : List (List (List ℕ)) → Type 0 = λ all. RecordsSpellLines deck all (sections_of (spelled_lines deck.settings.version rows)) in
       subst P (sym (all ∙ append-nil rows)) (record { faultless = before; sections = refl })

@@ -1,9 +1,9 @@
 -- A tag alone, and a tag with fields behind it.
 use Rattle.std.proofs.Common.{◌≡◌, ◌≢◌, ◌<◌, ◌∷◌, [], ℕ, List, Ok, Err, length, drop, refl, arith}
 use Rattle.air_report.specs.LineTexts.{start_by}
-use Rattle.air_report.specs.declared.reading.kinds.FaultKind.TheVariants as fault
+use Rattle.air_report.specs.declared.reading.kinds.ReportFaultKind.TheVariants as fault
 use Rattle.air_report.specs.declared.reading.lines.EventLine.TheVariants.{Start}
-use Rattle.air_report.specs.declared.reading.lines.Line.TheVariants.{Event}
+use Rattle.air_report.specs.declared.reading.lines.ReportLine.TheVariants.{Event}
 
 pub no_fields : (fields : List (List ℕ)) → length fields ≡ 1 → start_by (drop 1 fields) ≡ Ok (Event Start)
 no_fields [] h = absurd (omega arith)

@@ -17,12 +17,12 @@ use Rattle.air_report.specs.ReportGrammar.{Applies, IsLineOf, NoLine, joined}
 use Rattle.air_report.specs.ReportLines.{ReportLines, event_in, its_line, lines_in, sections_of, starts_in}
 use Rattle.air_report.specs.ReportRules.{IsReport}
 use Rattle.air_report.specs.Private.RecordAnswers.{line_record_kind, with_one_line}
-use Rattle.air_report.specs.declared.reading.kinds.FaultKind.{FaultKind}
-use Rattle.air_report.specs.declared.reading.kinds.FaultKind.TheVariants as fault
+use Rattle.air_report.specs.declared.reading.kinds.ReportFaultKind.{ReportFaultKind}
+use Rattle.air_report.specs.declared.reading.kinds.ReportFaultKind.TheVariants as fault
 use Rattle.air_report.specs.declared.reading.lines.EventLine.{EventLine}
 use Rattle.air_report.specs.declared.reading.lines.EventLine.TheVariants.{Commit, Start}
-use Rattle.air_report.specs.declared.reading.lines.Line.{Line}
-use Rattle.air_report.specs.declared.reading.lines.Line.TheVariants as l
+use Rattle.air_report.specs.declared.reading.lines.ReportLine.{ReportLine}
+use Rattle.air_report.specs.declared.reading.lines.ReportLine.TheVariants as l
 use Rattle.air_report.proofs.KeptLines.{next_more}
 use Rattle.air_report.proofs.LineOrder.{one_more, together}
 use Rattle.air_report.proofs.LineRanks.{in_time}
@@ -63,14 +63,14 @@ module _ (deck : Deck) (before : Report) (rep : IsReport deck before) where
       ap (map (event_in deck)) named ∙ map-append (event_in deck) (map its_line H) (x ∷ []) ∙ ap (λ es. es ++ event ∷ []) (legal_same deck H rep.legal) in
       same_legal deck (H ++ event ∷ []) (subst (λ es. EachNext deck [] es) (sym named) each) same
 
-  update_holds : (x : Line) → comes_next deck lines.events x ≡ true → Legal (H ++ (own_line deck x).history)
+  update_holds : (x : ReportLine) → comes_next deck lines.events x ≡ true → Legal (H ++ (own_line deck x).history)
   update_holds (l.Event x) next = next_holds x next
   update_holds (l.Verdict x) next = subst Legal (sym (append-nil H)) rep.legal
   update_holds (l.Counts x) next = subst Legal (sym (append-nil H)) rep.legal
   update_holds (l.Glance x) next = subst Legal (sym (append-nil H)) rep.legal
   update_holds (l.Look x) next = subst Legal (sym (append-nil H)) rep.legal
 
-  update_told : (x : Line) (line : Report) → lines_in line ≡ sections_of (x ∷ []) → Legal (H ++ line.history) → comes_next deck lines.events x ≡ true
+  update_told : (x : ReportLine) (line : Report) → lines_in line ≡ sections_of (x ∷ []) → Legal (H ++ line.history) → comes_next deck lines.events x ≡ true
   update_told (l.Event x) line same legal =
       let events : map its_line line.history ≡ x ∷ [] = ap (λ (r : ReportLines). r.events) same in
       let each = subst (λ es. EachNext deck [] es) (map-append its_line H line.history ∙ ap (λ es. map its_line H ++ es) events) (legal_next deck (H ++ line.history) legal) in
@@ -82,13 +82,13 @@ module _ (deck : Deck) (before : Report) (rep : IsReport deck before) where
 
   -- ---- the order
 
-  order_holds : (x : Line) → comes_after_later_section lines x ≡ false → report_rows (joined before (own_line deck x)) ≡ report_rows before ++ report_rows (own_line deck x)
+  order_holds : (x : ReportLine) → comes_after_later_section lines x ≡ false → report_rows (joined before (own_line deck x)) ≡ report_rows before ++ report_rows (own_line deck x)
   order_holds x late =
       let one = own_line deck x in
       sym (rows_of_lines (joined before one)) ∙ ap (λ r. map line_row (together r)) (lines_joined before one x (lines_back deck (sections_of (x ∷ []))))
       ∙ ap (map line_row) (one_more lines x late) ∙ map-append line_row (together lines) (x ∷ []) ∙ same_append (rows_of_lines before) (sym (own_row deck x))
 
-  order_told : (row : Row) (x : Line) → Printed row x → (line : Report) → IsLineOf row line → lines_in line ≡ sections_of (x ∷ [])
+  order_told : (row : Row) (x : ReportLine) → Printed row x → (line : Report) → IsLineOf row line → lines_in line ≡ sections_of (x ∷ [])
       → report_rows (joined before line) ≡ report_rows before ++ report_rows line → comes_after_later_section lines x ≡ false
   order_told row x p line is same h =
       let whole = joined before line in
@@ -102,15 +102,15 @@ module _ (deck : Deck) (before : Report) (rep : IsReport deck before) where
   -- ---- kinds
 
   module _ (row : Row) where
-    abbrev Holds : FaultKind → Type 0
+    abbrev Holds : ReportFaultKind → Type 0
     Holds kind = Applies deck before row kind
 
     -- A kind applies, and none that is less does.
-    pub record Least (kind : FaultKind) : Type 0 where
+    pub record Least (kind : ReportFaultKind) : Type 0 where
       pub applies : Applies deck before row kind
-      pub least : (other : FaultKind) → Applies deck before row other → report_kind_number kind ≤ report_kind_number other
+      pub least : (other : ReportFaultKind) → Applies deck before row other → report_kind_number kind ≤ report_kind_number other
 
-    least_from : (kind : FaultKind) → Holds kind → ((other : FaultKind) → report_kind_number other < report_kind_number kind → Holds other → ⊥) → Least kind
+    least_from : (kind : ReportFaultKind) → Holds kind → ((other : ReportFaultKind) → report_kind_number other < report_kind_number kind → Holds other → ⊥) → Least kind
     least_from kind holds none = record {
       applies = holds;
       least = λ other h. elim (cases_lt (report_kind_number other) (report_kind_number kind)) [ inl less ↦ absurd (none other less h) | inr more ↦ more ];
@@ -122,7 +122,7 @@ module _ (deck : Deck) (before : Report) (rep : IsReport deck before) where
         let found = line_is row line is in let same = sym e ∙ ap (spelled_line deck.settings.version) found.1.row_is in
         elim (spelled_or_untold deck.settings.version found.0 found.1.wide) [ inl own ↦ let told = same ∙ own in cc told | inr none ↦ let told = same ∙ none in cc told ]
 
-    no_first : (other : FaultKind) → report_kind_number other < 1 → Holds other → ⊥
+    no_first : (other : ReportFaultKind) → report_kind_number other < 1 → Holds other → ⊥
     no_first fault.Fields less h = omega (arith, less)
     no_first fault.Form less h = omega (arith, less)
     no_first fault.Tag less h = omega (arith, less)
@@ -131,7 +131,7 @@ module _ (deck : Deck) (before : Report) (rep : IsReport deck before) where
     no_first fault.Deck less h = omega (arith, less)
     no_first fault.Cycle less h = omega (arith, less)
 
-    no_second : RowTold deck.settings.version row (Err fault.Form) → (other : FaultKind) → report_kind_number other < 2 → Holds other → ⊥
+    no_second : RowTold deck.settings.version row (Err fault.Form) → (other : ReportFaultKind) → report_kind_number other < 2 → Holds other → ⊥
     no_second told fault.Fields less h = h.1 told.1
     no_second told fault.Form less h = omega (arith, less)
     no_second told fault.Tag less h = omega (arith, less)
@@ -140,7 +140,7 @@ module _ (deck : Deck) (before : Report) (rep : IsReport deck before) where
     no_second told fault.Deck less h = omega (arith, less)
     no_second told fault.Cycle less h = omega (arith, less)
 
-    no_third : RowTold deck.settings.version row (Err fault.Tag) → (other : FaultKind) → report_kind_number other < 3 → Holds other → ⊥
+    no_third : RowTold deck.settings.version row (Err fault.Tag) → (other : ReportFaultKind) → report_kind_number other < 3 → Holds other → ⊥
     no_third told fault.Fields less h = h.0 told
     no_third told fault.Form less h = h.0 told
     no_third told fault.Tag less h = omega (arith, less)
@@ -149,7 +149,7 @@ module _ (deck : Deck) (before : Report) (rep : IsReport deck before) where
     no_third told fault.Deck less h = omega (arith, less)
     no_third told fault.Cycle less h = omega (arith, less)
 
-    unspelled : (kind : FaultKind) → spelled_line deck.settings.version row ≡ Err kind → RowTold deck.settings.version row (Err kind) → Least kind
+    unspelled : (kind : ReportFaultKind) → spelled_line deck.settings.version row ≡ Err kind → RowTold deck.settings.version row (Err kind) → Least kind
     unspelled fault.Fields e told = least_from fault.Fields told no_first
     unspelled fault.Form e told = least_from fault.Form (told.0, no_line e) (no_second told)
     unspelled fault.Tag e told = least_from fault.Tag told (no_third told)
@@ -159,7 +159,7 @@ module _ (deck : Deck) (before : Report) (rep : IsReport deck before) where
     unspelled fault.Cycle e told = absurd told
 
     -- A record that spells a line.
-    module _ (x : Line) (e : spelled_line deck.settings.version row ≡ Ok x) where
+    module _ (x : ReportLine) (e : spelled_line deck.settings.version row ≡ Ok x) where
       told : RowTold deck.settings.version row (Ok x)
       told = spelled_told deck.settings.version row (Ok x) e
 
@@ -196,8 +196,8 @@ module _ (deck : Deck) (before : Report) (rep : IsReport deck before) where
       cycle_applies t line is h =
           true≢false (sym (begun_told deck (starts H) x line (same line is) h) ∙ ap (λ n. is_begun n x) (sym (starts_of H)) ∙ t)
 
-      no_less : (kind : FaultKind) → report_kind_number kind ≤ 8 → (4 < report_kind_number kind → late ≡ false) → (5 < report_kind_number kind → next ≡ true)
-          → (6 < report_kind_number kind → known ≡ true) → (7 < report_kind_number kind → begun ≡ true) → (other : FaultKind) → report_kind_number other < report_kind_number kind → Holds other → ⊥
+      no_less : (kind : ReportFaultKind) → report_kind_number kind ≤ 8 → (4 < report_kind_number kind → late ≡ false) → (5 < report_kind_number kind → next ≡ true)
+          → (6 < report_kind_number kind → known ≡ true) → (7 < report_kind_number kind → begun ≡ true) → (other : ReportFaultKind) → report_kind_number other < report_kind_number kind → Holds other → ⊥
       no_less kind most a b c d fault.Fields less h = h.1 told.0
       no_less kind most a b c d fault.Form less h = h.1 (own_line deck x) mine tt
       no_less kind most a b c d fault.Tag less h = let both = sym h ∙ told.0 in cc both
@@ -206,7 +206,7 @@ module _ (deck : Deck) (before : Report) (rep : IsReport deck before) where
       no_less kind most a b c d fault.Deck less h = h (own_line deck x) mine (known_one deck x (c less))
       no_less kind most a b c d fault.Cycle less h = h (own_line deck x) mine (begun_one deck (starts H) x (ap (λ n. is_begun n x) (sym (starts_of H)) ∙ d less))
 
-      tested : (kind : FaultKind) → first_of (line_tests deck lines x) ≡ Some kind → Least kind
+      tested : (kind : ReportFaultKind) → first_of (line_tests deck lines x) ≡ Some kind → Least kind
       tested kind h = by late next known begun refl refl refl refl h
         where
           by : (a n k b : Bool) → late ≡ a → next ≡ n → known ≡ k → begun ≡ b → first_of ((fault.Order, a) ∷ (fault.Update, not n) ∷ (fault.Deck, not k) ∷ (fault.Cycle, not b) ∷ []) ≡ Some kind → Least kind
@@ -224,7 +224,7 @@ module _ (deck : Deck) (before : Report) (rep : IsReport deck before) where
               subst Least one (least_from fault.Cycle (cycle_applies eb) (no_less fault.Cycle (omega arith) (λ m. ea) (λ m. en) (λ m. ek) (λ m. absurd (omega (arith, m)))))
           by false true true true ea en ek eb h = cc h
 
-      none_holds : late ≡ false → next ≡ true → known ≡ true → begun ≡ true → (other : FaultKind) → Holds other → ⊥
+      none_holds : late ≡ false → next ≡ true → known ≡ true → begun ≡ true → (other : ReportFaultKind) → Holds other → ⊥
       none_holds ea en ek eb fault.Fields h = h.1 told.0
       none_holds ea en ek eb fault.Form h = h.1 (own_line deck x) mine tt
       none_holds ea en ek eb fault.Tag h = let both = sym h ∙ told.0 in cc both
@@ -233,10 +233,10 @@ module _ (deck : Deck) (before : Report) (rep : IsReport deck before) where
       none_holds ea en ek eb fault.Deck h = h (own_line deck x) mine (known_one deck x ek)
       none_holds ea en ek eb fault.Cycle h = h (own_line deck x) mine (begun_one deck (starts H) x (ap (λ n. is_begun n x) (sym (starts_of H)) ∙ eb))
 
-      untested : first_of (line_tests deck lines x) ≡ None → (other : FaultKind) → Holds other → ⊥
+      untested : first_of (line_tests deck lines x) ≡ None → (other : ReportFaultKind) → Holds other → ⊥
       untested h = by late next known begun refl refl refl refl h
         where
-          by : (a n k b : Bool) → late ≡ a → next ≡ n → known ≡ k → begun ≡ b → first_of ((fault.Order, a) ∷ (fault.Update, not n) ∷ (fault.Deck, not k) ∷ (fault.Cycle, not b) ∷ []) ≡ None → (other : FaultKind) → Holds other → ⊥
+          by : (a n k b : Bool) → late ≡ a → next ≡ n → known ≡ k → begun ≡ b → first_of ((fault.Order, a) ∷ (fault.Update, not n) ∷ (fault.Deck, not k) ∷ (fault.Cycle, not b) ∷ []) ≡ None → (other : ReportFaultKind) → Holds other → ⊥
           by true n k b ea en ek eb h = cc h
           by false false k b ea en ek eb h = cc h
           by false true false b ea en ek eb h = cc h
@@ -244,16 +244,16 @@ module _ (deck : Deck) (before : Report) (rep : IsReport deck before) where
           by false true true true ea en ek eb h = none_holds ea en ek eb
 
     -- What the reader tells of a record.
-    pub least_kind_is : (kind : FaultKind) → line_record_kind deck lines (spelled_line deck.settings.version row) ≡ Some kind → Least kind
+    pub least_kind_is : (kind : ReportFaultKind) → line_record_kind deck lines (spelled_line deck.settings.version row) ≡ Some kind → Least kind
     least_kind_is kind h = by (spelled_line deck.settings.version row) refl h
       where
-        by : (o : Result Line FaultKind) → spelled_line deck.settings.version row ≡ o → line_record_kind deck lines o ≡ Some kind → Least kind
+        by : (o : Result ReportLine ReportFaultKind) → spelled_line deck.settings.version row ≡ o → line_record_kind deck lines o ≡ Some kind → Least kind
         by (Err other) e h = let one : other ≡ kind = cc h in subst Least one (unspelled other e (spelled_told deck.settings.version row (Err other) e))
         by (Ok x) e h = tested x e kind h
 
-    pub no_kind_is : line_record_kind deck lines (spelled_line deck.settings.version row) ≡ None → (other : FaultKind) → Applies deck before row other → ⊥
+    pub no_kind_is : line_record_kind deck lines (spelled_line deck.settings.version row) ≡ None → (other : ReportFaultKind) → Applies deck before row other → ⊥
     no_kind_is h = by (spelled_line deck.settings.version row) refl h
       where
-        by : (o : Result Line FaultKind) → spelled_line deck.settings.version row ≡ o → line_record_kind deck lines o ≡ None → (other : FaultKind) → Holds other → ⊥
+        by : (o : Result ReportLine ReportFaultKind) → spelled_line deck.settings.version row ≡ o → line_record_kind deck lines o ≡ None → (other : ReportFaultKind) → Holds other → ⊥
         by (Err other) e h = cc h
         by (Ok x) e h = untested x e h

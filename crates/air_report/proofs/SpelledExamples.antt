@@ -19,7 +19,7 @@ use Rattle.air_report.specs.ReadReports.{IsReportOf}
 use Rattle.air_report.specs.ReportGrammar.{HasReportFault, SpellsReport}
 use Rattle.air_report.specs.ReportRules.{CountsWide, EventWide, HasWidths, LookWide, ReadWide, VerdictWide}
 use Rattle.air_report.specs.LineFaults.{line_kinds_at}
-use Rattle.air_report.specs.LineGrammar.{HasLineFault, RowsSpellLines, SpellsLines}
+use Rattle.air_report.specs.LineGrammar.{HasLineFault, RecordsSpellLines, SpellsLines}
 use Rattle.air_report.specs.ReportLines.{lines_in}
 use Rattle.air_report.specs.declared.reading.ReadReport.{ReadReport}
 use Rattle.air_report.proofs.HistoryRows.{one_history}
@@ -56,13 +56,13 @@ no_kind (suc (suc zero)) below = refl
 no_kind (suc (suc (suc zero))) below = refl
 no_kind (suc (suc (suc (suc place)))) below = absurd (omega arith)
 
-rows_spell : RowsSpellLines deck rows (lines_in report)
+rows_spell : RecordsSpellLines deck rows (lines_in report)
 unfolding spelled_read spelled_place spelled_item short_of number_of all_some
 rows_spell = record { faultless = no_kind; sections = refl }
 
 -- Not without one of the lines, nor where the look comes first.
-not_rows_spell : (RowsSpellLines deck rows (record (lines_in report) { looks = [] }) → ⊥)
-    × (RowsSpellLines deck ((codes "look" ∷ codes "0" ∷ codes "0" ∷ codes "30" ∷ []) ∷ (codes "start" ∷ []) ∷ []) (record (lines_in report) { looks = [] }) → ⊥)
+not_rows_spell : (RecordsSpellLines deck rows (record (lines_in report) { looks = [] }) → ⊥)
+    × (RecordsSpellLines deck ((codes "look" ∷ codes "0" ∷ codes "0" ∷ codes "30" ∷ []) ∷ (codes "start" ∷ []) ∷ []) (record (lines_in report) { looks = [] }) → ⊥)
 unfolding line_kinds_at spelled_read spelled_place spelled_item short_of number_of all_some
 not_rows_spell = (
   λ h. let n : 0 ≡ 1 = ap (λ lines. length lines.looks) h.sections in omega (arith, n),

@@ -20,8 +20,8 @@ use Rattle.air_report.specs.LineFaults.{is_tried, line_kinds_at, line_tests, may
 use Rattle.air_report.specs.ReportLines.{ReportLines, its_line, lines_in, sections_of, starts_in}
 use Rattle.air_report.specs.Private.RecordAnswers.{line_record_kind, with_one_line}
 use Rattle.air_report.specs.declared.reading.lines.EventLine.{EventLine}
-use Rattle.air_report.specs.declared.reading.lines.Line.{Line}
-use Rattle.air_report.specs.declared.reading.lines.Line.TheVariants as l
+use Rattle.air_report.specs.declared.reading.lines.ReportLine.{ReportLine}
+use Rattle.air_report.specs.declared.reading.lines.ReportLine.TheVariants as l
 use Rattle.air_report.proofs.PlaceLemmas.{lines_more, none_added, sections_more}
 use Rattle.air_report.specs.LineRules.{EachNext, LineWide, LinesWide, InGrammar, IsRight}
 use Rattle.air_report.specs.ReportRules.{CountsWide, LookWide, VerdictWide}
@@ -42,7 +42,7 @@ module _ (deck : Deck) where
     pub sections : sections_of (spelled_lines deck.settings.version rows) ≡ r
 
   -- One row more.
-  step : (rows : List (List (List ℕ))) (r : ReportLines) (row : List (List ℕ)) (x : Line) → Stands rows r → spelled_line deck.settings.version row ≡ Ok x → first_of (line_tests deck r x) ≡ None → Stands (rows ++ row ∷ []) (with_one_line r x)
+  step : (rows : List (List (List ℕ))) (r : ReportLines) (row : List (List ℕ)) (x : ReportLine) → Stands rows r → spelled_line deck.settings.version row ≡ Ok x → first_of (line_tests deck r x) ≡ None → Stands (rows ++ row ∷ []) (with_one_line r x)
   step rows r row x s spelled none =
       let judge : line_record_kind deck (sections_of (spelled_lines deck.settings.version rows)) (spelled_line deck.settings.version row) ≡ None = ap (λ q. line_record_kind deck (sections_of (spelled_lines deck.settings.version rows)) q) spelled ∙ ap (λ q. first_of (line_tests deck q x)) s.sections ∙ none in
       record {
@@ -51,7 +51,7 @@ module _ (deck : Deck) where
       }
 
   -- Lines of a section, each fine after those before it.
-  module _ {L : Type 0} (at : List L → ReportLines) (wrap : L → Line) (row : L → List (List ℕ)) (put : (done : List L) (x : L) → with_one_line (at done) (wrap x) ≡ at (done ++ x ∷ [])) where
+  module _ {L : Type 0} (at : List L → ReportLines) (wrap : L → ReportLine) (row : L → List (List ℕ)) (put : (done : List L) (x : L) → with_one_line (at done) (wrap x) ≡ at (done ++ x ∷ [])) where
     abbrev Fine : List L → List L → Type 0
     Fine done [] = Unit {0}
     Fine done (x ∷ xs) = (spelled_line deck.settings.version (row x) ≡ Ok (wrap x)) × (first_of (line_tests deck (at done) (wrap x)) ≡ None) × Fine (done ++ x ∷ []) xs

@@ -14,7 +14,7 @@ use Rattle.air_base.specs.declared.verdicts.VerdictKind.{VerdictKind}
 use Rattle.air_base.specs.declared.verdicts.VerdictKind.TheVariants as kind
 use Rattle.air_base.proofs.ListLaws.{IsPart, parts_of-list_text}
 use Rattle.air_base.proofs.NumberLemmas.{text_spells}
-use Rattle.air_base.proofs.NumberFronts.{all_such, spelled_digits}
+use Rattle.air_base.proofs.LeadingNumberLemmas.{all_such, spelled_digits}
 use Rattle.air_base.proofs.PartLemmas.{all_some-Some}
 use Rattle.air_history.specs.declared.histories.Event.{Event}
 use Rattle.air_history.specs.declared.histories.Event.TheVariants as e
@@ -26,8 +26,8 @@ use Rattle.air_model.specs.declared.reports.VerdictLine.{VerdictLine}
 use Rattle.air_report.specs.LineFaults.{may_end}
 use Rattle.air_report.specs.LineTexts.{short_of, spelled_item, spelled_line, spelled_place, spelled_read}
 use Rattle.air_report.specs.ReportLines.{its_line}
-use Rattle.air_report.specs.declared.reading.kinds.FaultKind.TheVariants as fault
-use Rattle.air_report.specs.declared.reading.lines.Line.TheVariants as l
+use Rattle.air_report.specs.declared.reading.kinds.ReportFaultKind.TheVariants as fault
+use Rattle.air_report.specs.declared.reading.lines.ReportLine.TheVariants as l
 use Rattle.air_report.proofs.ReadLemmas.{place_made, read_made}
 use Rattle.air_report.specs.LineRules.{LineWide}
 use Rattle.air_report.specs.ReportRules.{CountsWide, EndWide, LookWide, ReadWide, VerdictWide}

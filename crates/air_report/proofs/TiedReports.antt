@@ -10,14 +10,14 @@ use Rattle.item_catalog.proofs.FaultPlaces.{not_both, one_kind, one_place}
 use Rattle.item_catalog.proofs.WrittenRows.{written_rows}
 use Rattle.air_report.specs.Kinds.{report_kind_number}
 use Rattle.air_report.specs.LineFaults.{line_kinds_at, spelled_lines}
-use Rattle.air_report.specs.LineGrammar.{HasLineFault, RowsSpellLines, SpellsLines}
+use Rattle.air_report.specs.LineGrammar.{HasLineFault, RecordsSpellLines, SpellsLines}
 use Rattle.air_report.specs.LineTexts.{spelled_line}
 use Rattle.air_report.specs.ReportGrammar.{HasReportFault, SpellsReport}
 use Rattle.air_report.specs.ReportLines.{ReportLines, lines_in, report_in, sections_of}
 use Rattle.air_report.specs.LineRules.{InGrammar}
 use Rattle.air_report.specs.ReportRules.{HasWidths, IsReport}
 use Rattle.air_report.specs.Private.RecordAnswers.{line_record_kind}
-use Rattle.air_report.specs.declared.reading.kinds.FaultKind.{FaultKind}
+use Rattle.air_report.specs.declared.reading.kinds.ReportFaultKind.{ReportFaultKind}
 use Rattle.air_report.proofs.KeptLines.{spelled_kept}
 use Rattle.air_report.proofs.LineOrder.{in_order, together}
 use Rattle.air_report.proofs.PlaceLemmas.{none_added}
@@ -33,7 +33,7 @@ module _ (deck : Deck) where
   -- ---- reports
 
   -- Records that spell lines are the rows of a report of the deck.
-  rows_spelled : (rows : List Row) (lines : ReportLines) → RowsSpellLines deck rows lines → (rows ≡ report_rows (report_in deck lines)) × IsReport deck (report_in deck lines)
+  rows_spelled : (rows : List Row) (lines : ReportLines) → RecordsSpellLines deck rows lines → (rows ≡ report_rows (report_in deck lines)) × IsReport deck (report_in deck lines)
   rows_spelled rows lines s =
       let each = lines_of_rows deck.settings.version rows (together lines) (in_order deck rows lines s) in (
         each.0 ∙ ap (λ r. map line_row (together r)) (sym (lines_back deck lines)) ∙ rows_of_lines (report_in deck lines),
@@ -51,7 +51,7 @@ module _ (deck : Deck) where
   pub report_lines : (text : List ℕ) (r : Report) → SpellsReport deck text r → SpellsLines deck text (lines_in r)
   unfolding SpellsLines
   report_lines text r is =
-      let s = rows_stand r is.report in let P : List Row → Type 0 = λ rows. RowsSpellLines deck rows (lines_in r) in
+      let s = rows_stand r is.report in let P : List Row → Type 0 = λ rows. RecordsSpellLines deck rows (lines_in r) in
       subst P (sym is.rows) (record { faultless = s.faultless; sections = sym s.sections })
 
   -- The text of a report of the deck spells it.
@@ -63,7 +63,7 @@ module _ (deck : Deck) where
   pub printed_lines : (r : Report) → HasWidths r → InGrammar deck (lines_in r) → SpellsLines deck (report_text r) (lines_in r)
   unfolding SpellsLines report_text
   printed_lines r wide right =
-      let s = stand deck r (wide_lines r wide) right in let P : List Row → Type 0 = λ rows. RowsSpellLines deck rows (lines_in r) in
+      let s = stand deck r (wide_lines r wide) right in let P : List Row → Type 0 = λ rows. RecordsSpellLines deck rows (lines_in r) in
       subst P (sym (written_rows (report_rows r) (plain_report r))) (record { faultless = s.faultless; sections = sym s.sections })
 
   same_lines : (text : List ℕ) (a b : ReportLines) → SpellsLines deck text a → SpellsLines deck text b → a ≡ b
@@ -78,7 +78,7 @@ module _ (deck : Deck) where
   -- ---- faults
 
   -- The reader stands behind records without fault, and tells a kind of the next.
-  pub told_after : (text : List ℕ) (rows : List Row) → NoneBefore (line_kinds_at deck rows) (length rows) → (row : Row) (left : List Row) (kind : FaultKind) → records_of text ≡ rows ++ row ∷ left
+  pub told_after : (text : List ℕ) (rows : List Row) → NoneBefore (line_kinds_at deck rows) (length rows) → (row : Row) (left : List Row) (kind : ReportFaultKind) → records_of text ≡ rows ++ row ∷ left
       → line_record_kind deck (sections_of (spelled_lines deck.settings.version rows)) (spelled_line deck.settings.version row) ≡ Some kind → HasReportFault deck text (length rows + 1) (report_kind_number kind)
   told_after text rows before row left kind all h =
       let lines = sections_of (spelled_lines deck.settings.version rows) in let report = report_in deck lines in
@@ -101,7 +101,7 @@ module _ (deck : Deck) where
   pub fault_told : (text : List ℕ) (row kind : ℕ) → HasReportFault deck text row kind → HasLineFault deck text row kind
   fault_told text row kind f = by (line_record_kind deck (lines_in f.before) (spelled_line deck.settings.version f.faulty)) refl
     where
-      by : (o : Option FaultKind) → line_record_kind deck (lines_in f.before) (spelled_line deck.settings.version f.faulty) ≡ o → HasLineFault deck text row kind
+      by : (o : Option ReportFaultKind) → line_record_kind deck (lines_in f.before) (spelled_line deck.settings.version f.faulty) ≡ o → HasLineFault deck text row kind
       by None e = absurd (no_kind_is deck f.before f.report f.faulty e f.which f.applies)
       by (Some told) e =
           let least = least_kind_is deck f.before f.report f.faulty told e in
@@ -121,7 +121,7 @@ module _ (deck : Deck) where
       by (line_record_kind deck (sections_of (spelled_lines deck.settings.version rows)) (spelled_line deck.settings.version row)) refl
       (λ e. walk text (rows ++ row ∷ []) left (all ∙ sym (append_assoc rows (row ∷ []) left)) (none_added deck rows row before e))
     where
-      by : (o : Option FaultKind) → line_record_kind deck (sections_of (spelled_lines deck.settings.version rows)) (spelled_line deck.settings.version row) ≡ o
+      by : (o : Option ReportFaultKind) → line_record_kind deck (sections_of (spelled_lines deck.settings.version rows)) (spelled_line deck.settings.version row) ≡ o
           → (line_record_kind deck (sections_of (spelled_lines deck.settings.version rows)) (spelled_line deck.settings.version row) ≡ None → ((lines : ReportLines) × SpellsLines deck text lines) ⊎ Found text)
           → ((lines : ReportLines) × SpellsLines deck text lines) ⊎ Found text
       by None e further = further e

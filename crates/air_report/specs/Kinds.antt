@@ -1,10 +1,10 @@
 -- The numbers of the kinds of a report's fault: of those that apply to a record, the one of the least number is told.
 use Rattle.std.specs.Prelude.{ℕ}
-use Rattle.air_report.specs.declared.reading.kinds.FaultKind.{FaultKind}
-use Rattle.air_report.specs.declared.reading.kinds.FaultKind.TheVariants as fault
+use Rattle.air_report.specs.declared.reading.kinds.ReportFaultKind.{ReportFaultKind}
+use Rattle.air_report.specs.declared.reading.kinds.ReportFaultKind.TheVariants as fault
 
 -- The number of a kind.
-abbrev pub report_kind_number : FaultKind → ℕ
+abbrev pub report_kind_number : ReportFaultKind → ℕ
 report_kind_number fault.Fields = 1
 report_kind_number fault.Form = 2
 report_kind_number fault.Tag = 3

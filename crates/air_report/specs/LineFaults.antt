@@ -16,12 +16,12 @@ use Rattle.item_catalog.specs.RecordKinds.{spelled_kinds}
 use Rattle.air_report.specs.Kinds.{report_kind_number}
 use Rattle.air_report.specs.LineTexts.{spelled_line}
 use Rattle.air_report.specs.ReportLines.{ReportLines, commits_by, sections_of, starts_in}
-use Rattle.air_report.specs.declared.reading.kinds.FaultKind.{FaultKind}
-use Rattle.air_report.specs.declared.reading.kinds.FaultKind.TheVariants as fault
+use Rattle.air_report.specs.declared.reading.kinds.ReportFaultKind.{ReportFaultKind}
+use Rattle.air_report.specs.declared.reading.kinds.ReportFaultKind.TheVariants as fault
 use Rattle.air_report.specs.declared.reading.lines.EventLine.{EventLine}
 use Rattle.air_report.specs.declared.reading.lines.EventLine.TheVariants.{Commit, Start}
-use Rattle.air_report.specs.declared.reading.lines.Line.{Line}
-use Rattle.air_report.specs.declared.reading.lines.Line.TheVariants.{Event, Verdict, Counts, Glance, Look}
+use Rattle.air_report.specs.declared.reading.lines.ReportLine.{ReportLine}
+use Rattle.air_report.specs.declared.reading.lines.ReportLine.TheVariants.{Event, Verdict, Counts, Glance, Look}
 
 -- ---- order
 
@@ -30,7 +30,7 @@ abbrev pub is_filled : {A : Type 0} → List A → Bool
 is_filled lines = nat_lt 0 (length lines)
 
 -- A line of a later section stands among those before.
-abbrev pub comes_after_later_section : ReportLines → Line → Bool
+abbrev pub comes_after_later_section : ReportLines → ReportLine → Bool
 comes_after_later_section before (Event line) = is_filled before.verdicts || is_filled before.counts || is_filled before.glances || is_filled before.looks
 comes_after_later_section before (Verdict line) = is_filled before.counts || is_filled before.glances || is_filled before.looks
 comes_after_later_section before (Counts line) = is_filled before.glances || is_filled before.looks
@@ -45,13 +45,13 @@ is_next deck before (Commit by seq) = (seq == commits_by by before) && nat_lt se
 is_next deck before Start = true
 
 -- No other line is a commit.
-abbrev pub comes_next : Deck → List EventLine → Line → Bool
+abbrev pub comes_next : Deck → List EventLine → ReportLine → Bool
 comes_next deck before (Event line) = is_next deck before line
 comes_next deck before line = true
 
 -- ---- the deck
 
--- The first numbers stand in order at the front of the others.
+-- The first numbers begin the others, in order.
 abbrev pub leads : List ℕ → List ℕ → Bool
 leads [] ys = true
 leads (x ∷ xs) [] = false
@@ -86,7 +86,7 @@ abbrev pub is_tried : Deck → VerdictLine → Bool
 is_tried deck line = is_attempt deck line && may_end deck.settings.version line.verdict.kind
 
 -- What a line names, beside updates and cycles, is the deck's.
-abbrev pub is_known : Deck → Line → Bool
+abbrev pub is_known : Deck → ReportLine → Bool
 is_known deck (Event line) = true
 is_known deck (Verdict line) = is_tried deck line
 is_known deck (Counts line) = nat_lt line.reader (length deck.readers)
@@ -107,7 +107,7 @@ end_begun starts (Aged item cycle) = has_begun starts cycle
 end_begun starts Unfinished = true
 
 -- Each cycle that a line names began among so many starts before it; a monitor may also have seen the catalog, as cycle 0.
-abbrev pub is_begun : ℕ → Line → Bool
+abbrev pub is_begun : ℕ → ReportLine → Bool
 is_begun starts (Event line) = true
 is_begun starts (Verdict line) = list_all (λ read. has_begun starts read.cycle) line.reads && end_begun starts line.verdict.kind
 is_begun starts (Counts line) = true
@@ -117,7 +117,7 @@ is_begun starts (Look line) = nat_le line.cycle starts
 -- ---- the kinds
 
 -- The kinds that a line may have after these lines, by rising kind, each with its test.
-abbrev pub line_tests : Deck → ReportLines → Line → List (FaultKind × Bool)
+abbrev pub line_tests : Deck → ReportLines → ReportLine → List (ReportFaultKind × Bool)
 line_tests deck before line =
     (fault.Order, comes_after_later_section before line) ∷
     (fault.Update, not (comes_next deck before.events line)) ∷
@@ -125,18 +125,18 @@ line_tests deck before line =
     (fault.Cycle, not (is_begun (starts_in before.events) line)) ∷ []
 
 -- The numbers of the kinds that apply to what a record spells, after lines.
-abbrev pub line_kinds_after : Deck → ReportLines → Result Line FaultKind → List ℕ
+abbrev pub line_kinds_after : Deck → ReportLines → Result ReportLine ReportFaultKind → List ℕ
 line_kinds_after deck before spelled = spelled_kinds report_kind_number (line_tests deck before) spelled
 
 -- The lines that records spell in this version; a record that spells none adds nothing.
-abbrev pub spelled_lines : ℕ → List (List (List ℕ)) → List Line
-spelled_lines version rows = filter_map (λ row. result_ok (spelled_line version row)) rows
+abbrev pub spelled_lines : ℕ → List (List (List ℕ)) → List ReportLine
+spelled_lines version records = filter_map (λ fields. result_ok (spelled_line version fields)) records
 
 -- At the end no kind applies.
 abbrev pub line_place_kinds : Deck → ReportLines → Option (List (List ℕ)) → List ℕ
-line_place_kinds deck before (Some row) = line_kinds_after deck before (spelled_line deck.settings.version row)
+line_place_kinds deck before (Some fields) = line_kinds_after deck before (spelled_line deck.settings.version fields)
 line_place_kinds deck before None = []
 
 -- The numbers of the kinds that apply to the record at a place, counted from 0, after all records before it.
 unfoldable pub line_kinds_at : Deck → List (List (List ℕ)) → ℕ → List ℕ
-line_kinds_at deck rows place = line_place_kinds deck (sections_of (spelled_lines deck.settings.version (take place rows))) (slice_get rows place)
+line_kinds_at deck records place = line_place_kinds deck (sections_of (spelled_lines deck.settings.version (take place records))) (slice_get records place)

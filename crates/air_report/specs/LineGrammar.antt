@@ -12,13 +12,13 @@ use Rattle.air_report.specs.LineFaults.{line_kinds_at, spelled_lines}
 use Rattle.air_report.specs.ReportLines.{ReportLines, sections_of}
 
 -- The records spell the lines: no kind applies to a record, and these are the lines that they spell, by their sections.
-pub record RowsSpellLines (deck : Deck) (rows : List (List (List ℕ))) (lines : ReportLines) : Type 0 where
-  pub faultless : NoneBefore (line_kinds_at deck rows) (length rows)
-  pub sections : lines ≡ sections_of (spelled_lines deck.settings.version rows)
+pub record RecordsSpellLines (deck : Deck) (records : List (List (List ℕ))) (lines : ReportLines) : Type 0 where
+  pub faultless : NoneBefore (line_kinds_at deck records) (length records)
+  pub sections : lines ≡ sections_of (spelled_lines deck.settings.version records)
 
 -- The text spells the lines, as a report of the deck.
 unfoldable pub SpellsLines : Deck → List ℕ → ReportLines → Type 0
-SpellsLines deck text lines = RowsSpellLines deck (records_of text) lines
+SpellsLines deck text lines = RecordsSpellLines deck (records_of text) lines
 
 -- The first faulty record of the text has this row number, and this is the number of the least kind that applies there.
 unfoldable pub HasLineFault : Deck → List ℕ → ℕ → ℕ → Type 0

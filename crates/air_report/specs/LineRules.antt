@@ -6,8 +6,8 @@ use Rattle.air_report.specs.ReportLines.{ReportLines, starts_in}
 use Rattle.air_report.specs.ReportRules.{CountsWide, LookWide, VerdictWide}
 use Rattle.air_report.specs.declared.reading.lines.EventLine.{EventLine}
 use Rattle.air_report.specs.declared.reading.lines.EventLine.TheVariants.{Commit, Start}
-use Rattle.air_report.specs.declared.reading.lines.Line.{Line}
-use Rattle.air_report.specs.declared.reading.lines.Line.TheVariants.{Verdict, Counts, Glance, Look}
+use Rattle.air_report.specs.declared.reading.lines.ReportLine.{ReportLine}
+use Rattle.air_report.specs.declared.reading.lines.ReportLine.TheVariants.{Verdict, Counts, Glance, Look}
 
 -- ---- widths
 
@@ -32,7 +32,7 @@ EachNext deck before [] = ⊤
 EachNext deck before (line ∷ lines) = (is_next deck before line ≡ true) × EachNext deck (before ++ line ∷ []) lines
 
 -- What a line names is the deck's, and its cycles are among so many.
-pub record IsRight (deck : Deck) (starts : ℕ) (line : Line) : Type 0 where
+pub record IsRight (deck : Deck) (starts : ℕ) (line : ReportLine) : Type 0 where
   pub known : is_known deck line ≡ true
   pub begun : is_begun starts line ≡ true
 

@@ -5,7 +5,7 @@
 use Rattle.std.specs.Prelude.{◌^◌, ℕ, List, [], ◌∷◌, Option, Some, None, Result, Ok, Err, codes, nat_lt, if◌then◌else◌}
 use Rattle.air_base.specs.Numbers.{number_of}
 use Rattle.air_base.specs.NumberLists.{list_of}
-use Rattle.air_base.specs.Pieces.{cut_at, two_of, three_of}
+use Rattle.air_base.specs.Parts.{parts_at, two_of, three_of}
 use Rattle.air_base.specs.declared.verdicts.ReadOf.{ReadOf}
 use Rattle.air_base.specs.declared.verdicts.VerdictKind.{VerdictKind}
 use Rattle.air_base.specs.declared.verdicts.VerdictKind.TheVariants as kind
@@ -14,13 +14,13 @@ use Rattle.air_model.specs.declared.reports.LookLine.{LookLine}
 use Rattle.item_catalog.specs.RecordFields.{◌is◌, five_of, four_of, seven_of, six_of}
 use Rattle.item_catalog.specs.Spelled.{spelled_then as ◌>>=◌, or_fault}
 use Rattle.item_catalog.specs.Tags.{by_tag}
-use Rattle.air_report.specs.declared.reading.tags.Tag.{Tag}
-use Rattle.air_report.specs.declared.reading.tags.Tag.TheVariants as t
-use Rattle.air_report.specs.declared.reading.kinds.FaultKind.{FaultKind}
-use Rattle.air_report.specs.declared.reading.kinds.FaultKind.TheVariants as fault
+use Rattle.air_report.specs.declared.reading.tags.LineTag.{LineTag}
+use Rattle.air_report.specs.declared.reading.tags.LineTag.TheVariants as t
+use Rattle.air_report.specs.declared.reading.kinds.ReportFaultKind.{ReportFaultKind}
+use Rattle.air_report.specs.declared.reading.kinds.ReportFaultKind.TheVariants as fault
 use Rattle.air_report.specs.declared.reading.lines.EventLine.TheVariants.{Commit, Start}
-use Rattle.air_report.specs.declared.reading.lines.Line.{Line}
-use Rattle.air_report.specs.declared.reading.lines.Line.TheVariants.{Event, Verdict, Counts, Glance, Look}
+use Rattle.air_report.specs.declared.reading.lines.ReportLine.{ReportLine}
+use Rattle.air_report.specs.declared.reading.lines.ReportLine.TheVariants.{Event, Verdict, Counts, Glance, Look}
 
 -- A number, where it is below a bound.
 abbrev pub below : ℕ → Option ℕ → Option ℕ
@@ -38,7 +38,7 @@ short_of text = below (2 ^ 32) (number_of text)
 -- A place on the air: `<item>@<cycle>`.
 unfoldable pub spelled_place : List ℕ → Option (ℕ × ℕ)
 spelled_place text = do
-  sides ← two_of (cut_at 64 text)
+  sides ← two_of (parts_at 64 text)
   item ← spelled_item sides.0
   cycle ← short_of sides.1
   Some (item, cycle)
@@ -46,13 +46,13 @@ spelled_place text = do
 -- A read: `<item>@<cycle>=<value>`.
 unfoldable pub spelled_read : List ℕ → Option ReadOf
 spelled_read text = do
-  sides ← two_of (cut_at 61 text)
+  sides ← two_of (parts_at 61 text)
   place ← spelled_place sides.0
   value ← number_of sides.1
   Some (record { item = place.0; cycle = place.1; value = value })
 
 -- The verdict on an attempt with these reads.
-abbrev pub verdict_by : Option VerdictKind → List ℕ → List ℕ → List ℕ → List ℕ → Option Line
+abbrev pub verdict_by : Option VerdictKind → List ℕ → List ℕ → List ℕ → List ℕ → Option ReportLine
 verdict_by ended reader query attempt reads = do
   r ← short_of reader
   q ← short_of query
@@ -75,7 +75,7 @@ aged_of place = do
   Some (kind.Aged p.0 p.1)
 
 -- `commit,<by>,<seq>`
-abbrev pub commit_by : Option (List ℕ × List ℕ) → Result Line FaultKind
+abbrev pub commit_by : Option (List ℕ × List ℕ) → Result ReportLine ReportFaultKind
 commit_by None = Err fault.Fields
 commit_by (Some f) = or_fault fault.Form (do
   by ← short_of f.0
@@ -83,27 +83,27 @@ commit_by (Some f) = or_fault fault.Form (do
   Some (Event (Commit by seq)))
 
 -- `start`
-abbrev pub start_by : List (List ℕ) → Result Line FaultKind
+abbrev pub start_by : List (List ℕ) → Result ReportLine ReportFaultKind
 start_by [] = Ok (Event Start)
 start_by (field ∷ fields) = Err fault.Fields
 
 -- `accept,<reader>,<query>,<attempt>,<reads>`, and likewise `unfinished`
-abbrev pub ended_by : VerdictKind → Option (List ℕ × List ℕ × List ℕ × List ℕ) → Result Line FaultKind
+abbrev pub ended_by : VerdictKind → Option (List ℕ × List ℕ × List ℕ × List ℕ) → Result ReportLine ReportFaultKind
 ended_by end None = Err fault.Fields
 ended_by end (Some f) = or_fault fault.Form (verdict_by (Some end) f.0 f.1 f.2 f.3)
 
 -- `abort,<reader>,<query>,<attempt>,<reads>,<item>@<cycle>,<clash>`
-abbrev pub abort_by : Option (List ℕ × List ℕ × List ℕ × List ℕ × List ℕ × List ℕ) → Result Line FaultKind
+abbrev pub abort_by : Option (List ℕ × List ℕ × List ℕ × List ℕ × List ℕ × List ℕ) → Result ReportLine ReportFaultKind
 abort_by None = Err fault.Fields
 abort_by (Some f) = or_fault fault.Form (verdict_by (abort_of f.4 f.5) f.0 f.1 f.2 f.3)
 
 -- `aged,<reader>,<query>,<attempt>,<reads>,<item>@<cycle>`
-abbrev pub aged_by : Option (List ℕ × List ℕ × List ℕ × List ℕ × List ℕ) → Result Line FaultKind
+abbrev pub aged_by : Option (List ℕ × List ℕ × List ℕ × List ℕ × List ℕ) → Result ReportLine ReportFaultKind
 aged_by None = Err fault.Fields
 aged_by (Some f) = or_fault fault.Form (verdict_by (aged_of f.4) f.0 f.1 f.2 f.3)
 
 -- `counts,<reader>,<opened>,<dozed>,<late>,<refused>,<foreign>,<copied>`
-abbrev pub counts_by : Option (List ℕ × List ℕ × List ℕ × List ℕ × List ℕ × List ℕ × List ℕ) → Result Line FaultKind
+abbrev pub counts_by : Option (List ℕ × List ℕ × List ℕ × List ℕ × List ℕ × List ℕ × List ℕ) → Result ReportLine ReportFaultKind
 counts_by None = Err fault.Fields
 counts_by (Some f) = or_fault fault.Form (do
   reader ← short_of f.0
@@ -119,7 +119,7 @@ counts_by (Some f) = or_fault fault.Form (do
   })))
 
 -- `glance,<monitor>,<cycle>,<total>`, and likewise `look`
-abbrev pub seen_by : Option (List ℕ × List ℕ × List ℕ) → Result LookLine FaultKind
+abbrev pub seen_by : Option (List ℕ × List ℕ × List ℕ) → Result LookLine ReportFaultKind
 seen_by None = Err fault.Fields
 seen_by (Some f) = or_fault fault.Form (do
   monitor ← short_of f.0
@@ -128,11 +128,11 @@ seen_by (Some f) = or_fault fault.Form (do
   Some (record { monitor = monitor; cycle = cycle; total = total }))
 
 -- The tag `aged`, where the version has it.
-abbrev pub aged_tag : ℕ → Option Tag
+abbrev pub aged_tag : ℕ → Option LineTag
 aged_tag version = if has_ages version then Some t.Aged else None
 
 -- The tag of this name, if the version has one.
-abbrev pub line_tag : ℕ → List ℕ → Option Tag
+abbrev pub line_tag : ℕ → List ℕ → Option LineTag
 line_tag version text =
     if text is codes "commit" then Some t.Commit
     else if text is codes "start" then Some t.Start
@@ -146,12 +146,12 @@ line_tag version text =
     else None
 
 -- What is spelled, as a line.
-abbrev pub as_line : {A : Type 0} → (A → Line) → Result A FaultKind → Result Line FaultKind
+abbrev pub as_line : {A : Type 0} → (A → ReportLine) → Result A ReportFaultKind → Result ReportLine ReportFaultKind
 as_line f (Err kind) = Err kind
 as_line f (Ok x) = Ok (f x)
 
 -- What the fields after a tag spell.
-abbrev pub spelled_line_by : Option Tag → List (List ℕ) → Result Line FaultKind
+abbrev pub spelled_line_by : Option LineTag → List (List ℕ) → Result ReportLine ReportFaultKind
 spelled_line_by (Some t.Commit) fields = commit_by (two_of fields)
 spelled_line_by (Some t.Start) fields = start_by fields
 spelled_line_by (Some t.Accept) fields = ended_by kind.Accept (four_of fields)
@@ -164,5 +164,5 @@ spelled_line_by (Some t.Look) fields = as_line Look (seen_by (three_of fields))
 spelled_line_by None fields = Err fault.Tag
 
 -- What a record spells in this version, by its tag.
-abbrev pub spelled_line : ℕ → List (List ℕ) → Result Line FaultKind
-spelled_line version row = by_tag (line_tag version) spelled_line_by row
+abbrev pub spelled_line : ℕ → List (List ℕ) → Result ReportLine ReportFaultKind
+spelled_line version fields = by_tag (line_tag version) spelled_line_by fields

@@ -15,8 +15,8 @@ use Rattle.air_report.specs.Kinds.{report_kind_number}
 use Rattle.air_report.specs.ReportRules.{CyclesBegun, HasWidths, IsKnown, IsReport}
 use Rattle.air_report.specs.declared.reading.faults.ReportError.{ReportError}
 use Rattle.air_report.specs.declared.reading.faults.ReportError.TheVariants as error
-use Rattle.air_report.specs.declared.reading.kinds.FaultKind.{FaultKind}
-use Rattle.air_report.specs.declared.reading.kinds.FaultKind.TheVariants as fault
+use Rattle.air_report.specs.declared.reading.kinds.ReportFaultKind.{ReportFaultKind}
+use Rattle.air_report.specs.declared.reading.kinds.ReportFaultKind.TheVariants as fault
 
 -- The text spells the report, as one of the deck.
 pub record SpellsReport (deck : Deck) (text : List ℕ) (r : Report) : Type 0 where
@@ -56,7 +56,7 @@ joined r s = record {
 }
 
 -- The kinds of fault that apply to a row behind the rows of a report. Where no line has the row, those that ask for one apply too.
-abbrev pub Applies : Deck → Report → List (List ℕ) → FaultKind → Type 0
+abbrev pub Applies : Deck → Report → List (List ℕ) → ReportFaultKind → Type 0
 Applies deck before row fault.Fields = (due_length deck.settings.version row ≢ None) × (due_length deck.settings.version row ≢ Some (length row))
 Applies deck before row fault.Form = (due_length deck.settings.version row ≢ None) × NoLine row (λ line. ⊤)
 Applies deck before row fault.Tag = due_length deck.settings.version row ≡ None
@@ -71,13 +71,13 @@ pub record HasReportFault (deck : Deck) (text : List ℕ) (row_number kind_numbe
   pub before : Report
   pub faulty : List (List ℕ)
   pub behind : List (List (List ℕ))
-  pub which : FaultKind
+  pub which : ReportFaultKind
   pub records : records_of text ≡ report_rows before ++ faulty ∷ behind
   pub report : IsReport deck before
   pub row_number_is : row_number ≡ length (report_rows before) + 1
   pub kind_number_is : kind_number ≡ report_kind_number which
   pub applies : Applies deck before faulty which
-  pub least : (other : FaultKind) → Applies deck before faulty other → kind_number ≤ report_kind_number other
+  pub least : (other : ReportFaultKind) → Applies deck before faulty other → kind_number ≤ report_kind_number other
 
 -- A fault that is answered is the text's; no memory has no cause.
 abbrev pub IsReportAnswer : Deck → List ℕ → ReportError → Type 0

@@ -10,8 +10,8 @@ use Rattle.air_model.specs.declared.reports.LookLine.{LookLine}
 use Rattle.air_model.specs.declared.reports.VerdictLine.{VerdictLine}
 use Rattle.air_report.specs.declared.reading.lines.EventLine.{EventLine}
 use Rattle.air_report.specs.declared.reading.lines.EventLine.TheVariants.{Commit, Start}
-use Rattle.air_report.specs.declared.reading.lines.Line.{Line}
-use Rattle.air_report.specs.declared.reading.lines.Line.TheVariants as l
+use Rattle.air_report.specs.declared.reading.lines.ReportLine.{ReportLine}
+use Rattle.air_report.specs.declared.reading.lines.ReportLine.TheVariants as l
 
 -- The lines of a report: those of its history, which name each update by its updater and its number, of verdicts, of counts,
 -- of glances and of looks.
@@ -23,32 +23,32 @@ pub record ReportLines : Type 0 where
   pub looks : List LookLine
 
 -- The line, where it is one of the history.
-abbrev pub its_event : Line → Option EventLine
+abbrev pub its_event : ReportLine → Option EventLine
 its_event (l.Event line) = Some line
 its_event line = None
 
 -- The line, where it is one of verdicts.
-abbrev pub its_verdict : Line → Option VerdictLine
+abbrev pub its_verdict : ReportLine → Option VerdictLine
 its_verdict (l.Verdict line) = Some line
 its_verdict line = None
 
 -- The line, where it is one of counts.
-abbrev pub its_counts : Line → Option CountsLine
+abbrev pub its_counts : ReportLine → Option CountsLine
 its_counts (l.Counts line) = Some line
 its_counts line = None
 
 -- The line, where it is one of glances.
-abbrev pub its_glance : Line → Option LookLine
+abbrev pub its_glance : ReportLine → Option LookLine
 its_glance (l.Glance line) = Some line
 its_glance line = None
 
 -- The line, where it is one of looks.
-abbrev pub its_look : Line → Option LookLine
+abbrev pub its_look : ReportLine → Option LookLine
 its_look (l.Look line) = Some line
 its_look line = None
 
 -- Lines by their sections, each section in the order of the lines.
-abbrev pub sections_of : List Line → ReportLines
+abbrev pub sections_of : List ReportLine → ReportLines
 sections_of lines = record {
   events = filter_map its_event lines;
   verdicts = filter_map its_verdict lines;

@@ -21,7 +21,7 @@ use Rattle.air_model.specs.Aired.{Air, air_of, bucket_of, buckets_of, edition_at
 use Rattle.air_model.specs.Decks.{Deck, IsDeck, disks_in, values_in}
 use Rattle.air_model.specs.Disks.{Disk}
 use Rattle.air_model.specs.Programs.{program}
-use Rattle.air_sender.specs.BoardBuckets.{cycle_buckets, cycle_bytes, form_of}
+use Rattle.air_sender.specs.BoardBuckets.{board_buckets, board_bytes, form_of}
 use Rattle.air_sender.proofs.StartedBoards.{OwnCycleLaw}
 use Rattle.air_devices.specs.Masts.{SentBuckets}
 use Rattle.air_sender.specs.AiredBytes.{aired_bytes}
@@ -129,18 +129,18 @@ module _ (deck : Deck) (G : List Event) (e : Event) (board : Board) (is : board 
 
   -- what the board airs is the new cycle of the history
   pub start_aired : OwnCycleLaw → IsDeck deck → is_start e ≡ true → (form : Form) (disks : List Disk) (before after : List (List ℕ)) → form ≡ form_of (air_of deck) → disks ≡ disks_in deck 0
-      → before ≡ aired_bytes deck G → after ≡ before ++ cycle_bytes form 0 (program disks) board → after ≡ aired_bytes deck (G ++ e ∷ [])
+      → before ≡ aired_bytes deck G → after ≡ before ++ board_bytes form 0 (program disks) board → after ≡ aired_bytes deck (G ++ e ∷ [])
   start_aired own made start form disks before after p d so_far grew =
       let values = values_in deck in
       let a = air_of deck in
       let new = G ++ Start ∷ [] in
       let c = starts new in
       let slots = program disks in
-      let cycle : cycle_buckets form 0 slots board ≡ buckets_in values a new c =
-      ap (λ form. cycle_buckets form 0 slots board) p ∙ ap (λ e. cycle_buckets (form_of a) e slots board) (own_edition made c)
-      ∙ ap (λ xs. cycle_buckets (form_of a) (edition_at a c) xs board) (own_slots made disks c d) ∙ ap (cycle_buckets (form_of a) (edition_at a c) (slots_at a c)) (started_board start)
+      let cycle : board_buckets form 0 slots board ≡ buckets_in values a new c =
+      ap (λ form. board_buckets form 0 slots board) p ∙ ap (λ e. board_buckets (form_of a) e slots board) (own_edition made c)
+      ∙ ap (λ xs. board_buckets (form_of a) (edition_at a c) xs board) (own_slots made disks c d) ∙ ap (board_buckets (form_of a) (edition_at a c) (slots_at a c)) (started_board start)
       ∙ own values a G (sym (length-map deck.items (λ i. i.value))) ((air deck made).0) in
-      grew ∙ ap (λ l. l ++ cycle_bytes form 0 slots board) so_far ∙ ap (λ l. aired_bytes deck G ++ map spelling l) cycle
+      grew ∙ ap (λ l. l ++ board_bytes form 0 slots board) so_far ∙ ap (λ l. aired_bytes deck G ++ map spelling l) cycle
       ∙ sym (map-append spelling (buckets_of values a G) (buckets_in values a new (starts new))) ∙ ap (map spelling) (sym (buckets_start values a G))
       ∙ ap (λ e. aired_bytes deck (G ++ e ∷ [])) (sym (start_event e start))
 

@@ -20,20 +20,20 @@ use Rattle.air_devices.specs.Masts.{Changes, MastState, SentBuckets, with_bucket
 use Rattle.air_sender.specs.AirFaults.{IsAirAnswer, failed_slot}
 use Rattle.air_sender.specs.declared.airing.AirFault.{AirFault}
 use Rattle.air_sender.specs.declared.airing.AirFault.TheVariants as fault
-use Rattle.air_sender.specs.BoardBuckets.{IsLastBoard, body_on, bucket_on, cycle_buckets, cycle_bytes, form_of, last_bytes}
+use Rattle.air_sender.specs.BoardBuckets.{IsLastBoard, board_buckets, board_bytes, body_on, bucket_on, form_of, last_bytes}
 use Rattle.air_sender.proofs.RangeLemmas.{told_spelling}
 use Rattle.air_sender.proofs.StartedBoards.{last_cycle}
 
 -- ---- the buckets of a cycle
 
-pub length_cycle : (form : Form) (e : ℕ) (slots : List (Option ℕ)) (board : Board) → length (cycle_bytes form e slots board) ≡ length slots
-length_cycle form e slots board = length-map (cycle_buckets form e slots board) spelling ∙ length-map-range_with_len (bucket_on form e slots board) 0 (length slots)
+pub length_cycle : (form : Form) (e : ℕ) (slots : List (Option ℕ)) (board : Board) → length (board_bytes form e slots board) ≡ length slots
+length_cycle form e slots board = length-map (board_buckets form e slots board) spelling ∙ length-map-range_with_len (bucket_on form e slots board) 0 (length slots)
 
 pub slot_bytes : (form : Form) (e : ℕ) (slots : List (Option ℕ)) (board : Board) (s : ℕ) → s < length slots
-    → get_or (cycle_bytes form e slots board) s (spelling (bucket_on form e slots board s)) ≡ spelling (bucket_on form e slots board s)
+    → get_or (board_bytes form e slots board) s (spelling (bucket_on form e slots board s)) ≡ spelling (bucket_on form e slots board s)
 slot_bytes form e slots board s l =
     let on : ℕ → Bucket = bucket_on form e slots board in
-    get_or-map spelling (cycle_buckets form e slots board) s (on s) (spelling (on s)) (omega (arith, length-map-range_with_len on 0 (length slots)))
+    get_or-map spelling (board_buckets form e slots board) s (on s) (spelling (on s)) (omega (arith, length-map-range_with_len on 0 (length slots)))
     ∙ ap spelling (get_or-map-range_with_len on 0 (length slots) s s (on s) l (omega arith))
 
 -- ---- what the mast tells
@@ -81,20 +81,20 @@ refused (Ok x) failed told is h = absurd (false≢true (sym told ∙ is))
 -- ---- of which history they are
 
 last_is : (values : List ℕ) (air : Air) (G : List Event) (form : Form) (e : ℕ) (slots : List (Option ℕ)) (board : Board) → IsLastBoard values air G form e slots board
-    → All (λ o. IfSome o (λ i. i < length board.values)) slots → cycle_bytes form e slots board ≡ last_bytes values air G
+    → All (λ o. IfSome o (λ i. i < length board.values)) slots → board_bytes form e slots board ≡ last_bytes values air G
 last_is values air G form e slots board is fit =
     let now = board_of values (G ++ Start ∷ []) in
     let sized : length board.values ≡ air.items = ap (λ (b : Board). length b.values) is.board ∙ length-map-range_with_len (table (values_of values) (G ++ Start ∷ [])) 0 (length values) ∙ sym is.items in
     let fits : All (λ o. IfSome o (λ i. i < air.items)) (slots_at air (starts (G ++ Start ∷ []))) =
     subst (λ xs. All (λ o. IfSome o (λ i. i < air.items)) xs) (sym is.slots) (subst (λ n. All (λ o. IfSome o (λ i. i < n)) slots) sized fit) in
-    ap (λ (b : Board). cycle_bytes form e slots b) is.board
-    ∙ ap (λ (f : Form). cycle_bytes f e slots now) (sym (ap (λ p. let f : Form = record { policy = p; version = air.version } in f) is.policy ∙ ap (λ v. let f : Form = record { policy = form.policy; version = v } in f) is.version))
-    ∙ ap (λ (k : ℕ). cycle_bytes (form_of air) k slots now) (sym is.edition)
-    ∙ ap (λ (xs : List (Option ℕ)). cycle_bytes (form_of air) (edition_at air (starts (G ++ Start ∷ []))) xs now) (sym is.slots)
+    ap (λ (b : Board). board_bytes form e slots b) is.board
+    ∙ ap (λ (f : Form). board_bytes f e slots now) (sym (ap (λ p. let f : Form = record { policy = p; version = air.version } in f) is.policy ∙ ap (λ v. let f : Form = record { policy = form.policy; version = v } in f) is.version))
+    ∙ ap (λ (k : ℕ). board_bytes (form_of air) k slots now) (sym is.edition)
+    ∙ ap (λ (xs : List (Option ℕ)). board_bytes (form_of air) (edition_at air (starts (G ++ Start ∷ []))) xs now) (sym is.slots)
     ∙ ap (map spelling) (last_cycle values air G is.items fits)
 
 pub last_bytes_are : (values : List ℕ) (air : Air) (G : List Event) (form : Form) (e : ℕ) (slots : List (Option ℕ)) (board : Board) (n : ℕ) → IsLastBoard values air G form e slots board
-    → n ≡ length board.values → All (λ o. IfSome o (λ i. i < n)) slots → cycle_bytes form e slots board ≡ last_bytes values air G
+    → n ≡ length board.values → All (λ o. IfSome o (λ i. i < n)) slots → board_bytes form e slots board ≡ last_bytes values air G
 last_bytes_are values air G form e slots board n is same fit = last_is values air G form e slots board is (subst (λ n. All (λ (o : Option ℕ). IfSome o (λ i. i < n)) slots) same fit)
 
 -- ---- a fault

@@ -23,7 +23,7 @@ use Rattle.control_matrix.proofs.BoardLemmas.{board_push, start_board}
 use Rattle.air_model.specs.Buckets.{Body, Bucket, capped_bucket}
 use Rattle.air_model.specs.Aired.{Air, SlotsFit, aired_as, body_of, bucket_of, edition_at, slots_at}
 use Rattle.air_model.proofs.CapLemmas.{at_or_none}
-use Rattle.air_sender.specs.BoardBuckets.{EntriesBelow, body_on, bucket_on, cycle_buckets, entries_on, form_of}
+use Rattle.air_sender.specs.BoardBuckets.{EntriesBelow, board_buckets, body_on, bucket_on, entries_on, form_of}
 
 -- ---- the front of the last cycle
 
@@ -117,7 +117,7 @@ slot_bucket values air G e s slots n edition own h =
 -- The law that `own_cycle_law` has, for those who take it from there.
 abbrev pub OwnCycleLaw : Type 0
 OwnCycleLaw = (values : List ℕ) (air : Air) (G : List Event) → air.items ≡ length values → SlotsFit air →
-    cycle_buckets (form_of air) (edition_at air (starts (G ++ Start ∷ []))) (slots_at air (starts (G ++ Start ∷ []))) (board_of values (G ++ Start ∷ []))
+    board_buckets (form_of air) (edition_at air (starts (G ++ Start ∷ []))) (slots_at air (starts (G ++ Start ∷ []))) (board_of values (G ++ Start ∷ []))
     ≡ map (bucket_of values air (G ++ Start ∷ []) air.version (starts (G ++ Start ∷ []))) (range_with_len 0 (length (slots_at air (starts (G ++ Start ∷ [])))))
 
 -- A cycle's slots have items of the catalog.
@@ -126,7 +126,7 @@ slots_fit air c fit = at_or_none (All (λ o. IfSome o (λ i. i < air.items))) ai
 
 -- So it is where the slots of this one cycle have items of the catalog.
 pub last_cycle : (values : List ℕ) (air : Air) (G : List Event) → air.items ≡ length values → All (λ o. IfSome o (λ i. i < air.items)) (slots_at air (starts (G ++ Start ∷ []))) →
-    cycle_buckets (form_of air) (edition_at air (starts (G ++ Start ∷ []))) (slots_at air (starts (G ++ Start ∷ []))) (board_of values (G ++ Start ∷ []))
+    board_buckets (form_of air) (edition_at air (starts (G ++ Start ∷ []))) (slots_at air (starts (G ++ Start ∷ []))) (board_of values (G ++ Start ∷ []))
     ≡ map (bucket_of values air (G ++ Start ∷ []) air.version (starts (G ++ Start ∷ []))) (range_with_len 0 (length (slots_at air (starts (G ++ Start ∷ [])))))
 last_cycle values air G n fit =
     let H = G ++ Start ∷ [] in
@@ -135,7 +135,7 @@ last_cycle values air G n fit =
     let slots = slots_at air c in
     let on : ℕ → Bucket = bucket_on (form_of air) e slots (next_cycle values G) in
     let push : c ≡ starts G + 1 = starts_push values G in
-    ap (cycle_buckets (form_of air) e slots) (started values G)
+    ap (board_buckets (form_of air) e slots) (started values G)
     ∙ fill_by_all (bucket_of values air H air.version (starts G + 1)) (map on (range_with_len 0 (length slots))) (length slots) (on 0)
     (length-map-range_with_len on 0 (length slots))
     (λ s l. get_or-map-range_with_len on 0 (length slots) s s _ l (omega arith)

@@ -32,12 +32,12 @@ bucket_on form e slots board s =
     capped_bucket (record { version = form.version; edition = e; cycle = board.cycle; slot = s; body = body_on form.policy board (get_or slots s None) })
 
 -- The buckets of the board's cycle, slot by slot.
-abbrev pub cycle_buckets : Form → ℕ → List (Option ℕ) → Board → List Bucket
-cycle_buckets form e slots board = map (bucket_on form e slots board) (range_with_len 0 (length slots))
+abbrev pub board_buckets : Form → ℕ → List (Option ℕ) → Board → List Bucket
+board_buckets form e slots board = map (bucket_on form e slots board) (range_with_len 0 (length slots))
 
 -- Their bytes.
-abbrev pub cycle_bytes : Form → ℕ → List (Option ℕ) → Board → List (List ℕ)
-cycle_bytes form e slots board = map spelling (cycle_buckets form e slots board)
+abbrev pub board_bytes : Form → ℕ → List (Option ℕ) → Board → List (List ℕ)
+board_bytes form e slots board = map spelling (board_buckets form e slots board)
 
 -- A board can air its cycle: all its entries are below it.
 pub record EntriesBelow (board : Board) : Type 0 where

@@ -12,7 +12,7 @@ ghost use Rattle.air_model.specs.Buckets.{entry_len, most_count, spelling};
 ghost use Rattle.air_model.specs.Aired.{Air};
 ghost use Rattle.air_devices.specs.Counts.{HasCause};
 ghost use Rattle.air_devices.specs.Masts.{Changes, with_buckets};
-ghost use Rattle.air_sender.specs.BoardBuckets.{EntriesBelow, IsLastBoard, bucket_on, cycle_bytes, last_bytes};
+ghost use Rattle.air_sender.specs.BoardBuckets.{EntriesBelow, IsLastBoard, board_bytes, bucket_on, last_bytes};
 ghost use Rattle.air_sender.specs.AirFaults.{IsAirAnswer, SendsUpToFault};
 ghost use Rattle.air_sender.specs.TapeSizes.{cycle_size};
 
@@ -51,11 +51,11 @@ pub fn air_cycle<M: Mast>(
     requires version { (form.version ≡ 1) ⊎ (form.version ≡ 2) }
     requires few { form.version ≡ 1 → length board.now.values ≤ MOST_FULL_ITEMS }
     requires room { HEAD_BYTES + entry_len form.version * length board.now.values ≤ length buf.old }
-    ensures aired { OnOk result (Changes (with_buckets (cycle_bytes form 0 (slots_of program.now) board.now)) (M.state mast.old).told (M.state mast.new).told) }
+    ensures aired { OnOk result (Changes (with_buckets (board_bytes form 0 (slots_of program.now) board.now)) (M.state mast.old).told (M.state mast.new).told) }
     ensures history { (values : List ℕ) (air : Air) (G : List Event) → IsLastBoard values air G form 0 (slots_of program.now) board.now →
         SendsUpToFault (last_bytes values air G) result (M.state mast.old).told (M.state mast.new).told }
     ensures calm { OnOk result ((M.state mast.new).faults ≡ (M.state mast.old).faults) }
-    ensures fault { IfErr result (IsAirAnswer M.state (cycle_bytes form 0 (slots_of program.now) board.now) mast.old mast.new) }
+    ensures fault { IfErr result (IsAirAnswer M.state (board_bytes form 0 (slots_of program.now) board.now) mast.old mast.new) }
     ensures port { (M.state mast.new).port ≡ (M.state mast.old).port }
     ensures buffer { length buf.new ≡ length buf.old }
 {

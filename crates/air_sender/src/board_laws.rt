@@ -9,13 +9,13 @@ ghost use Rattle.air_history.specs.declared.histories.Event.TheVariants.{Start};
 ghost use Rattle.air_history.specs.Histories.{is_start, starts};
 ghost use Rattle.air_history.specs.Boards.{board_of};
 ghost use Rattle.air_model.specs.Aired.{Air, SlotsFit, bucket_of, buckets_of, edition_at, history_tape, slots_at};
-ghost use Rattle.air_sender.specs.BoardBuckets.{EntriesBelow, cycle_buckets, form_of, last_cycle_buckets};
+ghost use Rattle.air_sender.specs.BoardBuckets.{EntriesBelow, board_buckets, form_of, last_cycle_buckets};
 ghost use Rattle.air_sender.specs.TapeSizes.{tape_size};
 
 /// The board of a history that ends with a start airs the history's buckets of that cycle.
 pub fn own_cycle_law()
     ensures { (values : List ℕ) (air : Air) (G : List Event) → air.items ≡ length values → SlotsFit air →
-        cycle_buckets (form_of air) (edition_at air (starts (G ++ Start ∷ []))) (slots_at air (starts (G ++ Start ∷ []))) (board_of values (G ++ Start ∷ []))
+        board_buckets (form_of air) (edition_at air (starts (G ++ Start ∷ []))) (slots_at air (starts (G ++ Start ∷ []))) (board_of values (G ++ Start ∷ []))
         ≡ map (bucket_of values air (G ++ Start ∷ []) air.version (starts (G ++ Start ∷ []))) (range_with_len 0 (length (slots_at air (starts (G ++ Start ∷ []))))) }
 {}
 

@@ -3,8 +3,8 @@
 //! `bucket` has the bytes in hexadecimal digits, and `edited` reads the last ones again: the length to which they are cut or filled up with
 //! zeros, and then the place and the byte of each that is replaced. `encoded`, in `columns`, writes a bucket and reads it here.
 
-ghost use Rattle.std.specs.Prelude.{◌≡◌, IfOk, IsTrue};
-ghost use Rattle.air_model.specs.Buckets.{IsInRange, entries_of, kind_of};
+ghost use Rattle.std.specs.Prelude.{◌≡◌, IfOk};
+ghost use Rattle.air_model.specs.Buckets.{IsInRange, entries_of};
 ghost use Rattle.bucket_codec.specs.BucketsToAir.{body_to_air};
 
 use air_base::{NoMemory, write_u64};

@@ -3,7 +3,7 @@
 use Rattle.std.proofs.Common.{◌≡◌, ◌≢◌, ◌≤◌, ◌<◌, ◌⊎◌, inl, inr, ◌+◌, ◌*◌, ℕ, Ok, true, List, length, drop, get_or, slice_index, if◌then◌else◌, refl, sym, ◌∙◌, ap, subst, arith}
 use Rattle.std.specs.List.{flat_map, list_all}
 use Rattle.std.proofs.lemmas.Bool.{and_parts, ne_eqb}
-use Rattle.air_model.specs.Buckets.{bucket_at, count_of, entries_at, entries_of, entry_bytes, entry_count, entry_len, entry_told, is_entry, is_shaped, item_of, kind_of, number_at, raw_entries, raw_entry, reading, spelling, value_of}
+use Rattle.air_model.specs.Buckets.{Bucket, bucket_at, count_of, entries_at, entries_of, entry_bytes, entry_count, entry_len, entry_told, is_entry, is_shaped, item_of, kind_of, number_at, raw_entries, raw_entry, reading, spelling, value_of}
 use Rattle.air_model.proofs.ByteLemmas.{AllBytes}
 use Rattle.air_model.proofs.FieldLemmas.{Fields, IsWhole, fields_of}
 use Rattle.air_model.proofs.BucketLemmas.{bucket_from_whole, entries_read, fields_back, whole_from_ok}
@@ -64,7 +64,7 @@ module _ (bytes : List ℕ) (e : reading bytes ≡ Ok (bucket_at bytes)) where
   long_entries = ap length (entries_read bytes whole) ∙ length_entries (slice_index bytes 2) (number_at 8 4 bytes) many bytes
 
   -- but for an idle slot there is an entry for each item
-  pub as_many : kind_of (bucket_at bytes).body ≢ 0 → length (entries_of (bucket_at bytes).body) ≡ count_of (bucket_at bytes).body
+  as_many : kind_of (bucket_at bytes).body ≢ 0 → length (entries_of (bucket_at bytes).body) ≡ count_of (bucket_at bytes).body
   unfolding entry_count
   as_many busy =
       let k = kind_is in
@@ -74,23 +74,27 @@ module _ (bytes : List ℕ) (e : reading bytes ≡ Ok (bucket_at bytes)) where
   unfolding is_shaped
   all_pass = (and_parts _ (list_all (is_entry (slice_index bytes 2) (number_at 8 4 bytes)) (raw_entries (slice_index bytes 2) many bytes)) whole.shaped).1
 
-  -- What a reader of entries knows, by the version and the cycle that it read.
-  module _ (v c n : ℕ) (version : v ≡ (bucket_at bytes).version) (cycle : c ≡ (bucket_at bytes).cycle) (all : n ≡ length (entries_of (bucket_at bytes).body)) where
+  -- What a reader of entries knows of the bucket that the view has, by the version and the cycle that it read: there are so many
+  -- entries as items, since the slot isn't idle.
+  module _ (now : Bucket) (is : bucket_at bytes ≡ now) (busy : kind_of now.body ≢ 0) (v c n : ℕ) (version : v ≡ now.version) (cycle : c ≡ now.cycle) (all : n ≡ count_of now.body) where
     at_version : v ≡ slice_index bytes 2
-    at_version = version ∙ sym (version_is bytes)
+    at_version = version ∙ sym (ap (λ (b : Bucket). b.version) is) ∙ sym (version_is bytes)
 
     at_cycle : c ≡ number_at 8 4 bytes
-    at_cycle = cycle ∙ sym (cycle_is bytes)
+    at_cycle = cycle ∙ sym (ap (λ (b : Bucket). b.cycle) is) ∙ sym (cycle_is bytes)
+
+    at_many : n ≡ many
+    at_many = all ∙ sym (ap (λ (b : Bucket). count_of b.body) is) ∙ sym (as_many (λ idle. busy (sym (ap (λ (b : Bucket). kind_of b.body) is) ∙ idle))) ∙ long_entries
 
     -- the bytes reach to the end of the entries
     pub view_room : length bytes ≡ 24 + entry_len v * n
-    view_room = whole.exact ∙ ap (λ w. 24 + entry_len w * many) (sym at_version) ∙ ap (λ m. 24 + entry_len v * m) (sym (all ∙ long_entries))
+    view_room = whole.exact ∙ ap (λ w. 24 + entry_len w * many) (sym at_version) ∙ ap (λ m. 24 + entry_len v * m) (sym at_many)
 
     pub view_told : list_all (is_entry v c) (raw_entries v n bytes) ≡ true
-    view_told = (rw (at_version, at_cycle, all, long_entries) refl) ∙ all_pass
+    view_told = (rw (at_version, at_cycle, at_many) refl) ∙ all_pass
 
-    pub view_entries : entries_at v c n bytes ≡ entries_of (bucket_at bytes).body
-    view_entries = (rw (at_version, at_cycle, all, long_entries) refl) ∙ sym (entries_read bytes whole)
+    pub view_entries : entries_at v c n bytes ≡ entries_of now.body
+    view_entries = (rw (at_version, at_cycle, at_many) refl) ∙ sym (entries_read bytes whole) ∙ ap (λ (b : Bucket). entries_of b.body) is
 
     -- and to that of each
     pub entry_room : (i : ℕ) → i < n → 24 + entry_len v * i + entry_len v ≤ length bytes
@@ -103,5 +107,5 @@ module _ (bytes : List ℕ) (e : reading bytes ≡ Ok (bucket_at bytes)) where
     pub entry_tested : (i : ℕ) → i < n → is_entry v c (raw_entry v i bytes) ≡ true
     entry_tested i under = test_is v c n i bytes view_told under
 
-    pub view_entry : (i : ℕ) → i < n → entry_told v c (raw_entry v i bytes) ≡ get_or (entries_of (bucket_at bytes).body) i 0
+    pub view_entry : (i : ℕ) → i < n → entry_told v c (raw_entry v i bytes) ≡ get_or (entries_of now.body) i 0
     view_entry i under = sym (entry_is v c n i bytes under) ∙ ap (λ l. get_or l i 0) view_entries

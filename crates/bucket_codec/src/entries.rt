@@ -4,7 +4,7 @@
 //! before the bucket's own one the entry's cycle is; 255 stands for the entry 0. `encoding` makes ages here; `view` tests and
 //! reads entries here.
 
-ghost use Rattle.std.specs.Prelude.{◌≡◌, ◌≤◌, ◌<◌, ◌+◌, ◌*◌, ◌||◌, ◌&&◌, ◌==◌, true, nat_le, nat_lt, length};
+ghost use Rattle.std.specs.Prelude.{◌≡◌, ◌≤◌, ◌<◌, ◌+◌, ◌*◌, ◌==◌, true, length};
 ghost use Rattle.std.specs.List.{list_all};
 ghost use Rattle.air_history.specs.Ages.{capped};
 ghost use Rattle.air_model.specs.Buckets.{age_of, entries_at, entry_len, entry_told, has_ages, is_entry, most_count, number_at, raw_entries, raw_entry};

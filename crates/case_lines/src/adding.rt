@@ -30,13 +30,13 @@ pub fn add_entries(word: &[u8], entries: &[u32], out: &mut Vec<u8>) -> Result<()
     Ok(())
 }
 
-/// Adds each line of the text that isn't empty, with a front before it.
-pub fn add_lines(front: &[u8], text: &[u8], out: &mut Vec<u8>) -> Result<(), NoMemory> {
+/// Adds each line of the text that isn't empty, with a leading text before it.
+pub fn add_lines(leading: &[u8], text: &[u8], out: &mut Vec<u8>) -> Result<(), NoMemory> {
     let mut rest = text;
     for _ in 0..text.len() {
         let (line, more) = first_part(rest, b'\n');
         if !line.is_empty() {
-            out.extend_from_slice(front)?;
+            out.extend_from_slice(leading)?;
             out.extend_from_slice(line)?;
             out.push(b'\n')?;
         }

@@ -61,17 +61,17 @@ chunk_ends disks n d minors k chunk len limits at is few aired long =
     let turned : chunks * 1024 ≡ 1024 * chunks = omega arith in omega arith
 
 -- A disk of the first n is that disk of all.
-pub record IsFrontDisk (disks : List Disk) (n k : ℕ) (d : Disk) : Type 0 where
-  pub front : k < n
+pub record IsEarlierDisk (disks : List Disk) (n k : ℕ) (d : Disk) : Type 0 where
+  pub earlier : k < n
   pub within : k < length disks
   pub is : d ≡ get_or disks k d
   pub at : slice_get disks k ≡ Some d
 
-pub front_disk : (disks : List Disk) (n k : ℕ) (d : Disk) → n ≤ length disks → k < length (take n disks) → d ≡ get_or (take n disks) k d → IsFrontDisk disks n k d
-front_disk disks n k d whole below is =
+pub earlier_disk : (disks : List Disk) (n k : ℕ) (d : Disk) → n ≤ length disks → k < length (take n disks) → d ≡ get_or (take n disks) k d → IsEarlierDisk disks n k d
+earlier_disk disks n k d whole below is =
     let long = length-take-le n disks whole in
     let own = is ∙ get_or-take n disks k d (omega arith) in
-    record { front = omega arith; within = omega arith; is = own; at = slice_get_read disks (length disks) k d refl (omega arith) own }
+    record { earlier = omega arith; within = omega arith; is = own; at = slice_get_read disks (length disks) k d refl (omega arith) own }
 
 -- ---- a minor cycle as long as a chunk of each disk so far
 pub len_none : (m : ℕ) → 0 ≡ minor_len m []

@@ -99,12 +99,12 @@ module _ (disks : List Disk) (i n q : ℕ) (d : Disk) (limits : AreDeckDisks dis
       by zero below within = absurd (omega arith)
       by (suc row) below within = omega arith
 
--- All that is known of the numbers of an item's home: m minor cycles of so many slots, and the front before its disk.
-pub record HomeNumbers (disks : List Disk) (i q m row front : ℕ) (d : Disk) : Type 0 where
-  pub fits : FitsHome m row front q d
+-- All that is known of the numbers of an item's home: m minor cycles of so many slots, and the slots before its disk.
+pub record HomeNumbers (disks : List Disk) (i q m row slots_before : ℕ) (d : Disk) : Type 0 where
+  pub fits : FitsHome m row slots_before q d
   pub times : d.freq ≡ airings (program disks) i
   pub gap : num_chunks m d * row ≡ gap_of disks i
-  pub first : first_slot m row front q d ≡ next_wake (program disks) 0 i
+  pub first : first_slot m row slots_before q d ≡ next_wake (program disks) 0 i
   pub chunks : num_chunks m d ≡ chunks_of disks i
 
 home_own : (disks : List Disk) (i n q : ℕ) (d : Disk) → AreDeckDisks disks → IsHeld disks i n q d → length (program disks) ≤ MOST_SLOTS
@@ -125,25 +125,25 @@ home_own disks i n q d limits held short = record {
   chunks = sym (chunks_are disks n d i limits.airable held.at (has disks i n q d limits held));
 }
 
-pub home_numbers : (disks : List Disk) (i n q m row front : ℕ) (d : Disk) → AreDeckDisks disks → IsHeld disks i n q d → length (program disks) ≤ MOST_SLOTS
-    → m ≡ num_minors disks → row ≡ minor_len m disks → front ≡ minor_len m (take n disks) → HomeNumbers disks i q m row front d
-home_numbers disks i n q m row front d limits held short is rows fronts =
+pub home_numbers : (disks : List Disk) (i n q m row slots_before : ℕ) (d : Disk) → AreDeckDisks disks → IsHeld disks i n q d → length (program disks) ≤ MOST_SLOTS
+    → m ≡ num_minors disks → row ≡ minor_len m disks → slots_before ≡ minor_len m (take n disks) → HomeNumbers disks i q m row slots_before d
+home_numbers disks i n q m row slots_before d limits held short is rows counted =
     let rows_are : row ≡ minor_len (num_minors disks) disks = rows ∙ ap (λ m. minor_len m disks) is in
-    let fronts_are : front ≡ minor_len (num_minors disks) (take n disks) = fronts ∙ ap (λ m. minor_len m (take n disks)) is in
-    rw (is, rows_are, fronts_are) (home_own disks i n q d limits held short)
+    let slots_are : slots_before ≡ minor_len (num_minors disks) (take n disks) = counted ∙ ap (λ m. minor_len m (take n disks)) is in
+    rw (is, rows_are, slots_are) (home_own disks i n q d limits held short)
 
 -- The number of an item's disk is that of a disk.
 pub number_within : (disks : List Disk) (i n : ℕ) → AreDeckDisks disks → i < length (all_items disks) → n ≡ disk_number disks i → n < length disks
 number_within disks i n limits below is = let held = held_item disks i limits below in let within = slice_get_within disks (disk_number disks i) held.0 held.1.at in omega arith
 
 -- The same of the disk that is read at the item's number.
-pub home_known : (disks : List Disk) (i n q m row front : ℕ) (d : Disk) → AreDeckDisks disks → i < length (all_items disks) → n ≡ disk_number disks i → q ≡ place_number disks i
-    → d ≡ get_or disks n d → length (program disks) ≤ MOST_SLOTS → m ≡ num_minors disks → row ≡ minor_len m disks → front ≡ minor_len m (take n disks)
-    → HomeNumbers disks i q m row front d
-home_known disks i n q m row front d limits below number place is short minors rows fronts =
+pub home_known : (disks : List Disk) (i n q m row slots_before : ℕ) (d : Disk) → AreDeckDisks disks → i < length (all_items disks) → n ≡ disk_number disks i → q ≡ place_number disks i
+    → d ≡ get_or disks n d → length (program disks) ≤ MOST_SLOTS → m ≡ num_minors disks → row ≡ minor_len m disks → slots_before ≡ minor_len m (take n disks)
+    → HomeNumbers disks i q m row slots_before d
+home_known disks i n q m row slots_before d limits below number place is short minors rows counted =
     let found = held_item disks i limits below in
     let at : slice_get disks (disk_number disks i) ≡ Some d =
     slice_get_read disks (length disks) (disk_number disks i) d refl (number_within disks i (disk_number disks i) limits below refl) (is ∙ ap (λ n. get_or disks n d) number) in
     let same : found.0 ≡ d = same_Some found.0 d (sym found.1.at ∙ at) in
     let held = subst (λ q. IsHeld disks i n q d) (sym place) (subst (λ n. IsHeld disks i n (place_number disks i) d) (sym number) (subst (λ (x : Disk). IsHeld disks i (disk_number disks i) (place_number disks i) x) same found.1)) in
-    home_numbers disks i n q m row front d limits held short minors rows fronts
+    home_numbers disks i n q m row slots_before d limits held short minors rows counted

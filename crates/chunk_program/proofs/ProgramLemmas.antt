@@ -13,7 +13,7 @@ use Rattle.air_model.proofs.ProgramLemmas.{item_airings, item_comes_every, item_
 use Rattle.air_model.proofs.Elements.{all_at, at_all, has_contains}
 use Rattle.chunk_program.specs.declared.homes.Home.{Home}
 use Rattle.chunk_program.specs.declared.programs.Program.TheInside.{Inside}
-use Rattle.chunk_program.specs.ProgramView.{IsLaidOut}
+use Rattle.chunk_program.specs.ProgramFields.{IsLaidOut}
 use Rattle.chunk_program.specs.Homes.{IsHome}
 use Rattle.chunk_program.specs.CutConditions.{AreDeckDisks}
 use Rattle.chunk_program.specs.Places.{place_number}

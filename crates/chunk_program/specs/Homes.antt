@@ -15,13 +15,13 @@ pub record IsHome (disks : List Disk) (i : ℕ) (h : Home) : Type 0 where
 
 -- The first slot of the item at a place of a disk, whose chunks begin behind so many slots of a minor cycle.
 abbrev pub first_slot : ℕ → ℕ → ℕ → ℕ → Disk → ℕ
-first_slot minors minor_slots front place d = place / chunk_len minors d * minor_slots + (front + place % chunk_len minors d)
+first_slot minors minor_slots slots_before place d = place / chunk_len minors d * minor_slots + (slots_before + place % chunk_len minors d)
 
 -- The disk is aired in chunks that aren't empty, its items' gap is no longer than a program may be, and the first slot is within.
-pub record FitsHome (minors minor_slots front place : ℕ) (d : Disk) : Type 0 where
+pub record FitsHome (minors minor_slots slots_before place : ℕ) (d : Disk) : Type 0 where
   pub aired : 0 < d.freq
   pub some : 0 < num_chunks minors d
   pub filled : 0 < chunk_len minors d
   pub few : num_chunks minors d ≤ MOST_SLOTS
   pub short : num_chunks minors d * minor_slots ≤ MOST_SLOTS
-  pub first : first_slot minors minor_slots front place d < num_chunks minors d * minor_slots
+  pub first : first_slot minors minor_slots slots_before place d < num_chunks minors d * minor_slots

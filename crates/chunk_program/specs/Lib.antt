@@ -1,8 +1,8 @@
 pub mod Places
 pub mod PlaceTables
-pub mod ProgramView
+pub mod ProgramFields
 pub mod CutConditions
-pub mod CutView
+pub mod CutFields
 pub mod Homes
 pub mod Plans
 pub mod Private

@@ -38,7 +38,7 @@ impl Model for Cut {
 
     ghost Value = { List Disk };
 
-    ghost use Rattle.chunk_program.specs.CutView.{IsCut};
+    ghost use Rattle.chunk_program.specs.CutFields.{IsCut};
 
     ghost view = { λ c. c.disks.items };
 

@@ -26,11 +26,11 @@ pub struct Home {
 }
 
 /// The home of the item at a place of a disk, whose chunks begin behind so many slots of a minor cycle.
-fn home_at(disk: &Disk, minors: u64, minor_slots: u64, front: u64, place: u32) -> Home
-    requires { FitsHome minors minor_slots front place disk.now }
+fn home_at(disk: &Disk, minors: u64, minor_slots: u64, slots_before: u64, place: u32) -> Home
+    requires { FitsHome minors minor_slots slots_before place disk.now }
     ensures times { result.times ≡ disk.now.freq }
     ensures gap { result.gap ≡ num_chunks minors disk.now * minor_slots }
-    ensures first { result.first ≡ first_slot minors minor_slots front place disk.now }
+    ensures first { result.first ≡ first_slot minors minor_slots slots_before place disk.now }
     ensures chunks { result.chunks ≡ num_chunks minors disk.now }
 {
     let chunks = disk.chunks(minors);
@@ -39,7 +39,7 @@ fn home_at(disk: &Disk, minors: u64, minor_slots: u64, front: u64, place: u32) -
     Home {
         times: disk.freq(),
         gap: (chunks * minor_slots) as u32,
-        first: (place / len * minor_slots + (front + place % len)) as u32,
+        first: (place / len * minor_slots + (slots_before + place % len)) as u32,
         chunks: chunks as u32,
     }
 }
@@ -56,8 +56,8 @@ fn home_of(cut: &Cut, minors: u64, minor_slots: u64, item: u16) -> Home
     let number = cut.disk_of(item) as usize;
     let place = cut.place_of(item);
     let disks = cut.disks();
-    let front = len_before(disks, minors, number);
-    home_at(&disks[number], minors, minor_slots, front, place)
+    let slots_before = len_before(disks, minors, number);
+    home_at(&disks[number], minors, minor_slots, slots_before, place)
 }
 
 /// The homes of all items, by number.

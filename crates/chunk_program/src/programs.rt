@@ -4,7 +4,7 @@
 //! the laid out slots, and all that is asked of an item from its home: each in one step.
 
 ghost use Rattle.std.specs.Prelude.{◌≡◌, ◌<◌, ◌≤◌, ◌*◌, All, length, slice_get, IfOk, IfErr, IfSome};
-ghost use Rattle.air_base.specs.declared.limits.TheConstants.{MOST_ITEMS, MOST_RATE};
+ghost use Rattle.air_base.specs.declared.limits.TheConstants.{MOST_ITEMS, MOST_RATE, MOST_SLOTS};
 ghost use Rattle.air_model.specs.Disks.{all_items};
 ghost use Rattle.air_model.specs.Decks.{disks_in};
 ghost use Rattle.air_model.specs.Programs.{chunk_len, minor_len, num_chunks, num_minors, program};
@@ -18,15 +18,12 @@ use crate::cuts::Cut;
 use crate::disks::{Disk, copies};
 use crate::homes::{Home, homes};
 use crate::layout::{len_before, num_minors, slots_of};
-use air_base::limits;
+use air_base::limits::MOST_SLOTS;
 use item_catalog::Deck;
 use std::alloc::{AllocError, Global};
 use std::error::Error;
 use std::fmt;
 use std::marker::Model;
-
-/// The most slots that a program may have.
-const MOST_SLOTS: u64 = limits::MOST_SLOTS;
 
 /// Why there is no program.
 #[derive(Clone, Copy, Debug, PartialEq, Eq)]
@@ -75,7 +72,7 @@ impl Model for Program {
 
     ghost Value = { List Disk };
 
-    ghost use Rattle.chunk_program.specs.ProgramView.{IsLaidOut};
+    ghost use Rattle.chunk_program.specs.ProgramFields.{IsLaidOut};
 
     ghost view = { λ p. p.disks.items };
 

@@ -5,7 +5,7 @@ use Rattle.std.specs.Prelude.{Any}
 use Rattle.std.proofs.lemmas.Bool.{leb-true, leb-false, both_ways}
 use Rattle.air_base.specs.declared.verdicts.Clash.{Clash}
 use Rattle.air_base.specs.declared.verdicts.Policy.TheVariants.{FMatrix}
-use Rattle.air_history.specs.Clashes.{Heard, heard_clash, clash_by_entries}
+use Rattle.air_history.specs.Clashes.{HeardRead, heard_clash, clash_by_entries}
 use Rattle.held_reads.specs.Searches.{has_since, is_reached}
 use Rattle.held_reads.specs.HeldCycles.{held_cycle, AreHeldOnce}
 use Rattle.held_reads.proofs.LeastLemmas.{IsLeastOf}
@@ -41,7 +41,7 @@ either false b t = inr t
 any_more : {X : Type 0} (P Q : X → Type 0) (xs : List X) → ((x : X) → P x → Q x) → Any P xs → Any Q xs
 any_more P Q xs f a = (a.0, a.1, a.2, a.3, f a.1 a.4)
 
-both_names : (p q : Heard → Bool) (R : List Heard) (a b : Option Clash) → NamesLeastOf p R a → NamesLeastOf q R b → NamesLeastOf (λ r. p r || q r) R (lesser_of_both a b)
+both_names : (p q : HeardRead → Bool) (R : List HeardRead) (a b : Option Clash) → NamesLeastOf p R a → NamesLeastOf q R b → NamesLeastOf (λ r. p r || q r) R (lesser_of_both a b)
 both_names p q R None None n m = λ k d l. or_none _ _ (n k d l) (m k d l)
 both_names p q R (Some c) None n m = record {
   held = any_more _ _ R (λ r h. (or_left _ _ h.0, h.1)) n.held;
@@ -64,7 +64,7 @@ both_names p q R (Some c) (Some e) n m = by (nat_le c.item e.item) refl
     }
 
 -- The lesser of what the two searches answer is the clash by the entries.
-pub both_is : (R : List Heard) (x : Heard) (a b o : Option Clash) → AreHeldOnce R → a ≡ heard_clash (is_reached x.entries) R →
+pub both_is : (R : List HeardRead) (x : HeardRead) (a b o : Option Clash) → AreHeldOnce R → a ≡ heard_clash (is_reached x.entries) R →
     b ≡ heard_clash (has_since x.item x.cycle) R → o ≡ lesser_of_both a b → o ≡ clash_by_entries FMatrix R x
 both_is R x a b o once by_new by_held lesser =
     let new : NamesLeastOf (is_reached x.entries) R a = subst (NamesLeastOf (is_reached x.entries) R) (sym by_new) (search_names (is_reached x.entries) R) in

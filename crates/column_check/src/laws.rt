@@ -3,7 +3,7 @@
 ghost use Rattle.std.specs.Prelude.{◌≡◌, ◌≢◌, false, List, All, MatchOption};
 ghost use Rattle.air_base.specs.declared.verdicts.Policy.TheVariants.{FMatrix};
 ghost use Rattle.air_history.specs.declared.histories.Event.{Event};
-ghost use Rattle.air_history.specs.Clashes.{Heard, clash_by_entries};
+ghost use Rattle.air_history.specs.Clashes.{HeardRead, clash_by_entries};
 ghost use Rattle.air_history.specs.ClashLaws.{HasAiredEntries, HasCappedEntries};
 ghost use Rattle.air_history.specs.Columns.{scheme_of};
 ghost use Rattle.air_history.specs.HeldReads.{HeldReads, IsNew};
@@ -11,15 +11,15 @@ ghost use Rattle.column_check.specs.Searches.{disagree, IsLeastClash};
 
 /// F-Matrix names no clash where no held read disagrees with the new one, and else that of least item number.
 pub fn names_least_law()
-    ensures { (R : List Heard) (x : Heard) →
+    ensures { (R : List HeardRead) (x : HeardRead) →
         MatchOption (clash_by_entries FMatrix R x) (All (λ r. disagree x r ≡ false) R) (IsLeastClash R x) }
 {}
 
 /// A read of an item that isn't held, with the column of a history at its cycle, in full or as ages tell it, is a new one: it may
 /// be tried.
 pub fn aired_is_new_law()
-    ensures capped { (held : HeldReads) (H : List Event) (x : Heard) →
+    ensures capped { (held : HeldReads) (H : List Event) (x : HeardRead) →
         HasCappedEntries (scheme_of FMatrix) held.n H x → All (λ r. r.item ≢ x.item) held.reads → IsNew held x }
-    ensures full { (held : HeldReads) (H : List Event) (x : Heard) →
+    ensures full { (held : HeldReads) (H : List Event) (x : HeardRead) →
         HasAiredEntries (scheme_of FMatrix) held.n H x → All (λ r. r.item ≢ x.item) held.reads → IsNew held x }
 {}

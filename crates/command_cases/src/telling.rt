@@ -90,13 +90,13 @@ pub fn add_air(
     Ok(())
 }
 
-/// How many lines of the text begin with this front.
-pub fn count_lines(text: &[u8], front: &[u8]) -> u64 {
+/// How many lines of the text begin with this text.
+pub fn count_lines(text: &[u8], leading: &[u8]) -> u64 {
     let mut count = 0u64;
     let mut rest = text;
     for _ in 0..text.len() {
         let (line, more) = first_part(rest, b'\n');
-        if line.starts_with(front) {
+        if line.starts_with(leading) {
             count = count.saturating_add(1);
         }
         rest = more;

@@ -30,7 +30,7 @@ use Rattle.item_catalog.proofs.GrammarLemmas.{one_deck}
 use Rattle.live_replay.specs.Findings.{places_of}
 use Rattle.air_cli.specs.Headline.{CastStands, IsHeardReport, ListenStands, RunStands, TuneStands}
 use Rattle.air_cli.specs.Hearings.{heard_bytes}
-use Rattle.command_pins.specs.SmallDecks.{small_deck}
+use Rattle.command_pins.specs.SmallDecks.{short_deck}
 
 -- The bytes of the deck's file.
 abbrev deck_file : MemShelf → List ℕ
@@ -69,18 +69,18 @@ cast_left old new mast mast_now empty h =
 -- ---- over what was heard
 
 -- A deck that the file spells is the small one.
-is_small : (shelf : MemShelf) (d : Deck) → Spells (deck_file shelf) small_deck → Spells (deck_file shelf) d → d ≡ small_deck
-is_small shelf d small spelled = one_deck (deck_file shelf) d small_deck spelled small
+is_small : (shelf : MemShelf) (d : Deck) → Spells (deck_file shelf) short_deck → Spells (deck_file shelf) d → d ≡ short_deck
+is_small shelf d small spelled = one_deck (deck_file shelf) d short_deck spelled small
 
 -- The report over what was heard is what `tune` prints of it.
-heard_text : (d : Deck) (heard records : List (List ℕ)) (report : Report) → IsHeardReport d heard report → d ≡ small_deck → heard ≡ records → report_text report ≡ tune_output small_deck records
+heard_text : (d : Deck) (heard records : List (List ℕ)) (report : Report) → IsHeardReport d heard report → d ≡ short_deck → heard ≡ records → report_text report ≡ tune_output short_deck records
 heard_text d heard records report h same are =
-    ap report_text h.decided ∙ ap (λ d. tune_output d heard) same ∙ ap (tune_output small_deck) are
+    ap report_text h.decided ∙ ap (λ d. tune_output d heard) same ∙ ap (tune_output short_deck) are
 
 -- Of nothing, and of two records that are no buckets.
 pub record Heard : Type 0 where
-  nothing : tune_output small_deck [] ≡ codes "unfinished,0,0,1,\ncounts,0,0,0,0,0,0,0\n"
-  noise : tune_output small_deck ((1 ∷ []) ∷ (2 ∷ []) ∷ []) ≡ codes "unfinished,0,0,1,\ncounts,0,0,0,0,2,0,0\n"
+  nothing : tune_output short_deck [] ≡ codes "unfinished,0,0,1,\ncounts,0,0,0,0,0,0,0\n"
+  noise : tune_output short_deck ((1 ∷ []) ∷ (2 ∷ []) ∷ []) ≡ codes "unfinished,0,0,1,\ncounts,0,0,0,0,2,0,0\n"
 
 heard_computed : Heard
 unfolding number_text escaped fields_text is_blank clash_by_entries is_late least body_at bucket_at count_of entries_at entry_told raw_entries entry_count is_placed is_shaped is_entry reading keep without_item with_copy order order_with cut program least_common_multiple num_minors num_chunks chunk_len chunk minor_cycle disk_number chunks_of pix_number body_fits fits by_entries session query_of wanted line_of with_line count_copied count_opened count_dozed count_late count_refused count_foreign next_query next_attempt accept_if_whole hold abort is_unusable drop_copy copy_of turn_with turn settle decide offer open_bucket end_aged judge_read hear_read hear hear_all end_query end rows_text report_text
@@ -91,14 +91,14 @@ no_records : (records : List (List ℕ)) → tape_read [] ≡ record { records =
 unfolding read_from
 no_records records h = sym (ap (λ (read : TapeRead). read.records) h)
 
-pub tune_left : (old new : MemShelf) → (told_by old).printed ≡ Some [] → Spells (deck_file old) small_deck → file_bytes (file_named (codes "t") old.files.items) ≡ []
+pub tune_left : (old new : MemShelf) → (told_by old).printed ≡ Some [] → Spells (deck_file old) short_deck → file_bytes (file_named (codes "t") old.files.items) ≡ []
     → TuneStands (codes "d") (codes "t") (shelved_of old) (shelved_of new) → (told_by new).printed ≡ Some (codes "unfinished,0,0,1,\ncounts,0,0,0,0,0,0,0\n")
 tune_left old new empty small none h =
     let records : h.records ≡ [] = no_records h.records (subst (λ bytes. tape_read bytes ≡ record { records = h.records; cut = None }) none h.on_tape) in
     printed_alone old.printed.bytes (report_text h.report) (told_by new).printed empty h.printed
     ∙ ap Some (heard_text h.d h.records [] h.report h.heard (is_small old h.d small h.spelled.1) records ∙ heard_computed.nothing)
 
-pub listen_left : (old new : MemShelf) (ear ear_now : MemEarState) → (told_by old).printed ≡ Some [] → Spells (deck_file old) small_deck → ear.waiting ≡ (1 ∷ []) ∷ (2 ∷ []) ∷ []
+pub listen_left : (old new : MemShelf) (ear ear_now : MemEarState) → (told_by old).printed ≡ Some [] → Spells (deck_file old) short_deck → ear.waiting ≡ (1 ∷ []) ∷ (2 ∷ []) ∷ []
     → ListenStands (codes "d") 4000 (memory_ear_state ear) (memory_ear_state ear_now) (shelved_of old) (shelved_of new) → (told_by new).printed ≡ Some (codes "unfinished,0,0,1,\ncounts,0,0,0,0,2,0,0\n")
 listen_left old new ear ear_now empty small waiting h =
     let same = is_small old h.d small h.spelled.1 in

@@ -8,7 +8,7 @@ use Rattle.item_catalog.specs.Records.{records_of}
 use Rattle.air_model.specs.Decks.{Deck}
 use Rattle.item_catalog.specs.Grammar.{HasFault, Spells}
 use Rattle.air_devices.specs.Shelves.{ShelfState}
-use Rattle.air_devices.specs.Told.{WhereTold}
+use Rattle.air_devices.specs.WhatIsTold.{WhereTold}
 use Rattle.air_report.specs.declared.status.Status.{Status}
 use Rattle.air_report.specs.declared.status.Status.TheVariants as status
 use Rattle.air_cli.specs.NamedDecks.{DeckCause, IsFaulty}

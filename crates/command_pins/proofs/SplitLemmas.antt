@@ -8,7 +8,7 @@ use Rattle.csv.specs.Writing.{escaped, fields_text, is_blank}
 use Rattle.air_base.specs.Numbers.{number_text}
 use Rattle.air_devices.specs.Counts.{Rose}
 use Rattle.air_devices.specs.Shelves.{ShelfState}
-use Rattle.air_devices.specs.Told.{WhereTold}
+use Rattle.air_devices.specs.WhatIsTold.{WhereTold}
 use Rattle.air_model.specs.Decks.{Deck}
 use Rattle.air_model.specs.Programs.{least_common_multiple}
 use Rattle.air_model.specs.Rows.{rows_text}
@@ -19,8 +19,8 @@ use Rattle.item_catalog.specs.Grammar.{Spells}
 use Rattle.item_catalog.proofs.GrammarLemmas.{one_deck}
 use Rattle.disk_split.specs.SplitAnswers.{AreAllTooLong}
 use Rattle.disk_split.specs.Splits.{IsShortSplit, IsSplit, slots_of}
-use Rattle.disk_split.specs.Private.Numbers.{chunks_in, minors_in}
-use Rattle.disk_split.specs.Private.Rests.{minor_from}
+use Rattle.disk_split.specs.Numbers.{chunks_in, minors_in}
+use Rattle.disk_split.specs.Rests.{minor_from}
 use Rattle.disk_split.proofs.DeckLemmas.{deck_sums, slots_walk, split_rest}
 use Rattle.disk_split.proofs.RestLemmas.{slots_many}
 use Rattle.air_cli.specs.Answers.{QuietAnswers}

@@ -4,8 +4,8 @@ use Rattle.air_base.specs.declared.verdicts.Policy.TheVariants.{FMatrix}
 use Rattle.air_model.specs.Decks.{Deck}
 
 -- Two items on one disk; one reader asks for both, once; the script starts one cycle.
-abbrev pub small_deck : Deck
-small_deck = record {
+abbrev pub short_deck : Deck
+short_deck = record {
   items = record { value = 10; rate = 1 } ∷ record { value = 20; rate = 1 } ∷ [];
   disks = record { size = 2; freq = 1 } ∷ [];
   replans = [];
@@ -19,7 +19,7 @@ small_deck = record {
 -- 91 items of one rate on three disks of the frequencies 63, 56 and 44: so there are 5,544 minor cycles, and the disks have 88, 99 and 126 chunks. A
 -- minor cycle has three slots at least, and 1 1 89 has just these. The deck's own sizes have four, since 89 items need two slots of a chunk.
 abbrev pub long_deck : Deck
-long_deck = record small_deck {
+long_deck = record short_deck {
   items = replicate 91 (record { value = 10; rate = 1 });
   disks = record { size = 89; freq = 63 } ∷ record { size = 1; freq = 56 } ∷ record { size = 1; freq = 44 } ∷ [];
 }

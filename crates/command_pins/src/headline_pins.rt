@@ -14,7 +14,7 @@ ghost use Rattle.deck_runs.specs.Casts.{all_sent};
 ghost use Rattle.deck_runs.specs.DeckBytes.{deck_bytes};
 ghost use Rattle.item_catalog.specs.Grammar.{Spells};
 ghost use Rattle.live_replay.specs.Findings.{places_of};
-ghost use Rattle.command_pins.specs.SmallDecks.{small_deck};
+ghost use Rattle.command_pins.specs.SmallDecks.{short_deck};
 
 use air_cli::air_main;
 use air_devices::{Gate, MemEar, MemMast, MemShelf};
@@ -83,7 +83,7 @@ pub fn accepted_without_a_read<R: Threads + Wait + Sync, G: Gate + Sync>(
     requires unsent { sent_by mast.old ≡ nothing_sent }
     requires untuned { ear.old.port ≡ None }
     requires printed { (told_by shelf.old).printed ≡ Some [] }
-    requires deck { Spells (file_bytes (file_named (codes "d") shelf.old.files.items)) small_deck }
+    requires deck { Spells (file_bytes (file_named (codes "d") shelf.old.files.items)) short_deck }
     requires tape { file_bytes (file_named (codes "t") shelf.old.files.items) ≡ [] }
     ensures { result ≡ Status.Ok → (told_by shelf.new).printed ≡ Some (codes "unfinished,0,0,1,\ncounts,0,0,0,0,0,0,0\n") }
 {
@@ -106,7 +106,7 @@ pub fn noise_taken_for_buckets<R: Threads + Wait + Sync, G: Gate + Sync>(
     requires untuned { ear.old.port ≡ None }
     requires waiting { ear.old.waiting ≡ (1 ∷ []) ∷ (2 ∷ []) ∷ [] }
     requires printed { (told_by shelf.old).printed ≡ Some [] }
-    requires deck { Spells (file_bytes (file_named (codes "d") shelf.old.files.items)) small_deck }
+    requires deck { Spells (file_bytes (file_named (codes "d") shelf.old.files.items)) short_deck }
     ensures { result ≡ Status.Ok → (told_by shelf.new).printed ≡ Some (codes "unfinished,0,0,1,\ncounts,0,0,0,0,2,0,0\n") }
 {
     air_main(rt, alloc, words, shelf, mast, ear, gate)

@@ -1,5 +1,5 @@
--- How one event steps a board, for every board and every event.
-use Rattle.std.specs.Prelude.{ℕ, ◌+◌, cond, List, [], ◌∷◌, length, get_or, map}
+-- How one event steps a board, and a list of events, for every board and every event.
+use Rattle.std.specs.Prelude.{ℕ, ◌+◌, cond, List, [], ◌∷◌, length, fold, get_or, map}
 use Rattle.std.specs.List.{range_with_len}
 use Rattle.air_history.specs.declared.histories.Event.{Event}
 use Rattle.air_history.specs.Histories.{is_start, writes}
@@ -20,3 +20,7 @@ step_board b e = record {
   columns = next_columns (length b.values) b.cycle b.columns e;
   vector = next_vector (length b.values) b.cycle b.vector e;
 }
+
+-- The board after the events, in order.
+abbrev pub step_all : Board → List Event → Board
+step_all b events = fold step_board b events

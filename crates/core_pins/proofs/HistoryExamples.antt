@@ -11,7 +11,7 @@ use Rattle.air_history.specs.Columns.{column_entry, vector_entry, policy_entries
 use Rattle.air_history.specs.Tables.{BasesRead, values_of}
 use Rattle.air_history.specs.Reads.{ReadAt, first_cycle, origin, stale}
 use Rattle.air_history.specs.Consistency.{alone, descends_from, last_alone, picked_events, runs_alone}
-use Rattle.air_history.specs.Clashes.{Heard, clash_by_entries, clash_by_history, is_late, least}
+use Rattle.air_history.specs.Clashes.{HeardRead, clash_by_entries, clash_by_history, is_late, least}
 use Rattle.air_history.specs.ClashLaws.{current_cycle}
 use Rattle.core_pins.specs.Commits.{add_to, commit, set_to}
 
@@ -19,7 +19,7 @@ abbrev at : ℕ → ℕ → ReadAt
 at i c = record { item = i; cycle = c }
 
 -- The read as a receiver hears it, over three items.
-abbrev heard_at : Policy → List Event → ReadAt → Heard
+abbrev heard_at : Policy → List Event → ReadAt → HeardRead
 heard_at policy H r = record { item = r.item; cycle = r.cycle; entries = policy_entries policy 3 H r.cycle r.item }
 
 -- The items 0 and 1 are written by one update.

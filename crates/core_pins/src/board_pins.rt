@@ -6,7 +6,7 @@
 ghost use Rattle.std.specs.Prelude.{◌≡◌, [], ◌∷◌, IfOk};
 ghost use Rattle.air_history.specs.declared.histories.Event.TheVariants.{Start};
 ghost use Rattle.core_pins.specs.Commits.{set_to, add_to, commit};
-ghost use Rattle.core_pins.specs.SmallBoards.{pair};
+ghost use Rattle.core_pins.specs.SmallBoards.{pair_board};
 
 use air_base::NoMemory;
 use air_history::Event;
@@ -16,7 +16,7 @@ use std::alloc::Global;
 /// A commit that reads what it writes reads the column of before it, which is merged whole. It also refuses direct writers only: that
 /// of this column the entry of the item that is read is taken alone.
 pub fn column_already_changed(board: &mut Board, event: &Event)
-    requires board { board.old ≡ pair }
+    requires board { board.old ≡ pair_board }
     requires event { event.now ≡ commit 0 (1 ∷ []) (add_to 1 1 1) }
     ensures { board.new ≡ record { cycle = 2; values = 11 ∷ 13 ∷ []; columns = (1 ∷ 0 ∷ []) ∷ (1 ∷ 2 ∷ []) ∷ []; vector = 1 ∷ 2 ∷ [] } }
 {
@@ -33,7 +33,7 @@ pub fn entries_begin_at_one(alloc: Global, values: &[u64]) -> Result<Board, NoMe
 
 /// The column of item 1 isn't that of item 0.
 pub fn first_column_for_each_item(board: &Board) -> &[u32]
-    requires { board.now ≡ pair }
+    requires { board.now ≡ pair_board }
     ensures { result.now ≡ 1 ∷ 1 ∷ [] }
 {
     board.column(1)
@@ -42,7 +42,7 @@ pub fn first_column_for_each_item(board: &Board) -> &[u32]
 /// A blind write leaves nothing of the old column but its own cycle. The vector has the cycle at the item that is written, and at
 /// that alone. It also refuses that the vector is forgotten, and that marks of the commit before are kept.
 pub fn old_column_survives(board: &mut Board, event: &Event)
-    requires board { board.old ≡ pair }
+    requires board { board.old ≡ pair_board }
     requires event { event.now ≡ commit 0 [] (set_to 1 5) }
     ensures { board.new ≡ record { cycle = 2; values = 11 ∷ 5 ∷ []; columns = (1 ∷ 0 ∷ []) ∷ (0 ∷ 2 ∷ []) ∷ []; vector = 1 ∷ 2 ∷ [] } }
 {
@@ -51,7 +51,7 @@ pub fn old_column_survives(board: &mut Board, event: &Event)
 
 /// The write vector is the board's own.
 pub fn spare_for_vector(board: &Board) -> &[u32]
-    requires { board.now ≡ pair }
+    requires { board.now ≡ pair_board }
     ensures { result.now ≡ 1 ∷ 1 ∷ [] }
 {
     board.vector()
@@ -59,9 +59,9 @@ pub fn spare_for_vector(board: &Board) -> &[u32]
 
 /// A start begins the next cycle, and changes nothing else.
 pub fn start_without_cycle(board: &mut Board, event: &Event)
-    requires board { board.old ≡ pair }
+    requires board { board.old ≡ pair_board }
     requires event { event.now ≡ Start }
-    ensures { board.new ≡ record pair { cycle = 3 } }
+    ensures { board.new ≡ record pair_board { cycle = 3 } }
 {
     board.apply(event);
 }

@@ -4,14 +4,14 @@
 #![tactic(auto, unfolding(air_history::specs::Clashes::least, air_history::specs::Clashes::clash_by_entries))]
 
 ghost use Rattle.std.specs.Prelude.{◌≡◌, [], ◌∷◌, Some, None};
-ghost use Rattle.core_pins.specs.SmallReads.{heard, two};
+ghost use Rattle.core_pins.specs.SmallReads.{read_with_entries, two};
 
 use air_base::Clash;
 use column_check::Held;
 
 /// A read clashes with no held one where neither column has the other's item at its cycle or later.
 pub fn always_aborts(held: &Held, column: &[u32]) -> Option<Clash>
-    requires held { held.now ≡ two (heard 0 1 0 0 0) (heard 1 4 0 0 2) }
+    requires held { held.now ≡ two (read_with_entries 0 1 0 0 0) (read_with_entries 1 4 0 0 2) }
     requires column { column.now ≡ 0 ∷ 2 ∷ 0 ∷ [] }
     ensures { result ≡ None }
 {
@@ -21,7 +21,7 @@ pub fn always_aborts(held: &Held, column: &[u32]) -> Option<Clash>
 /// The clash is with the held read whose cycle the new column reaches, whichever was held first. It also refuses that the held
 /// columns alone decide.
 pub fn first_held_for_the_clashing(held: &Held, column: &[u32]) -> Option<Clash>
-    requires held { held.now ≡ two (heard 0 1 0 0 0) (heard 1 2 0 0 0) }
+    requires held { held.now ≡ two (read_with_entries 0 1 0 0 0) (read_with_entries 1 2 0 0 0) }
     requires column { column.now ≡ 0 ∷ 3 ∷ 0 ∷ [] }
     ensures { result ≡ Some (record { item = 1; cycle = 2 }) }
 {
@@ -30,7 +30,7 @@ pub fn first_held_for_the_clashing(held: &Held, column: &[u32]) -> Option<Clash>
 
 /// A held column that has the new item at the new cycle is enough too.
 pub fn one_way_check(held: &Held, column: &[u32]) -> Option<Clash>
-    requires held { held.now ≡ two (heard 0 1 0 0 0) (heard 1 5 0 0 3) }
+    requires held { held.now ≡ two (read_with_entries 0 1 0 0 0) (read_with_entries 1 5 0 0 3) }
     requires column { column.now ≡ 0 ∷ 0 ∷ 0 ∷ [] }
     ensures { result ≡ Some (record { item = 1; cycle = 5 }) }
 {

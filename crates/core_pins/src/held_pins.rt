@@ -4,14 +4,14 @@
 #![tactic(auto, unfolding(air_history::specs::Clashes::least))]
 
 ghost use Rattle.std.specs.Prelude.{◌≡◌, [], ◌∷◌, Some, true, false};
-ghost use Rattle.core_pins.specs.SmallReads.{heard, two};
+ghost use Rattle.core_pins.specs.SmallReads.{read_with_entries, two};
 
 use air_base::Clash;
 use held_reads::{HeldEntries, lesser_clash};
 
 /// A clash has the cycle in which its item is held, and not the entry that reaches it.
 pub fn entry_for_the_held_cycle(held: &HeldEntries, entries: &[u32]) -> Option<Clash>
-    requires held { held.now ≡ two (heard 0 1 0 0 0) (heard 1 2 0 0 0) }
+    requires held { held.now ≡ two (read_with_entries 0 1 0 0 0) (read_with_entries 1 2 0 0 0) }
     requires entries { entries.now ≡ 0 ∷ 5 ∷ 0 ∷ [] }
     ensures { result ≡ Some (record { item = 1; cycle = 2 }) }
 {
@@ -20,7 +20,7 @@ pub fn entry_for_the_held_cycle(held: &HeldEntries, entries: &[u32]) -> Option<C
 
 /// Reads whose cycles are 254 apart lie close enough. It refuses that 254 are too many.
 pub fn apart_at_254(held: &HeldEntries) -> bool
-    requires { held.now ≡ two (heard 0 1 0 0 0) (heard 1 3 0 0 0) }
+    requires { held.now ≡ two (read_with_entries 0 1 0 0 0) (read_with_entries 1 3 0 0 0) }
     ensures { result ≡ false }
 {
     held.spans(255)
@@ -29,7 +29,7 @@ pub fn apart_at_254(held: &HeldEntries) -> bool
 /// Reads whose cycles are 255 apart lie too far apart. It refuses that only more than 255 are too many, that the new read is left
 /// out, and that the last held cycle alone is asked.
 pub fn apart_above_255(held: &HeldEntries) -> bool
-    requires { held.now ≡ two (heard 0 300 0 0 0) (heard 1 299 0 0 0) }
+    requires { held.now ≡ two (read_with_entries 0 300 0 0 0) (read_with_entries 1 299 0 0 0) }
     ensures { result ≡ true }
 {
     held.spans(45)
@@ -37,7 +37,7 @@ pub fn apart_above_255(held: &HeldEntries) -> bool
 
 /// The held reads count among themselves too. It refuses that each of them is asked of the new one alone.
 pub fn apart_from_the_new_alone(held: &HeldEntries) -> bool
-    requires { held.now ≡ two (heard 0 1 0 0 0) (heard 1 256 0 0 0) }
+    requires { held.now ≡ two (read_with_entries 0 1 0 0 0) (read_with_entries 1 256 0 0 0) }
     ensures { result ≡ true }
 {
     held.spans(128)
@@ -45,7 +45,7 @@ pub fn apart_from_the_new_alone(held: &HeldEntries) -> bool
 
 /// The last cycle isn't the first.
 pub fn first_cycle_for_last(held: &HeldEntries) -> Option<u32>
-    requires { held.now ≡ two (heard 0 1 0 0 0) (heard 1 3 0 0 0) }
+    requires { held.now ≡ two (read_with_entries 0 1 0 0 0) (read_with_entries 1 3 0 0 0) }
     ensures { result ≡ Some 3 }
 {
     held.last()
@@ -64,14 +64,14 @@ pub fn first_held_for_least(best: Option<Clash>, clash: Clash) -> Clash
 pub fn hold_forgets_the_column(held: &mut HeldEntries, entries: &[u32])
     requires held { held.old ≡ record { n = 3; reads = [] } }
     requires entries { entries.now ≡ 0 ∷ 1 ∷ 1 ∷ [] }
-    ensures { held.new ≡ record { n = 3; reads = heard 1 2 0 1 1 ∷ [] } }
+    ensures { held.new ≡ record { n = 3; reads = read_with_entries 1 2 0 1 1 ∷ [] } }
 {
     held.hold(1, 2, entries);
 }
 
 /// An entry of the cycle itself is not below it.
 pub fn not_above_for_below(held: &HeldEntries) -> Option<Clash>
-    requires { held.now ≡ two (heard 0 4 0 0 2) (heard 1 4 0 0 3) }
+    requires { held.now ≡ two (read_with_entries 0 4 0 0 2) (read_with_entries 1 4 0 0 3) }
     ensures { result ≡ Some (record { item = 1; cycle = 4 }) }
 {
     held.least_having(2, 3)

@@ -3,10 +3,9 @@
 //! In the chain item 0 is written, item 2 from it, and item 1 from item 2, all in cycle 1.
 #![tactic(auto, unfolding(air_history::specs::UpdateRules::has_repeat, air_history::specs::UpdateRules::update_fault, air_history::specs::Histories::is_start, air_history::specs::Histories::reads, air_history::specs::Histories::writes, air_history::specs::Histories::starts, air_history::specs::Histories::cycle_at, air_history::specs::Histories::front, air_history::specs::Histories::writer_before, air_history::specs::Histories::writer, air_history::specs::Histories::ItemsFit, air_history::specs::Places::last_place, air_history::specs::Places::greatest, air_history::specs::Descents::descends_in, air_history::specs::Descents::descends, air_history::specs::Columns::column_entry, air_history::specs::Tables::value_on_base, air_history::specs::Tables::write_of, air_history::specs::Tables::value_after, air_history::specs::Tables::table))]
 
-ghost use Rattle.std.specs.Prelude.{◌≡◌, ◌⊎◌, [], ◌∷◌, length, slice_index_or, true, false, Some, None, IfOk, OnOk, MatchResult};
-ghost use Rattle.air_history.specs.declared.histories.Event.TheVariants.{Start};
+ghost use Rattle.std.specs.Prelude.{◌≡◌, ◌⊎◌, [], ◌∷◌, length, slice_index_or, true, false, None, IfOk, OnOk, MatchResult};
 ghost use Rattle.air_history.specs.declared.updates.UpdateFault.TheVariants.{BaseNotRead, NoMemory as NoRoom};
-ghost use Rattle.core_pins.specs.Commits.{set_to, add_to, update_of, commit};
+ghost use Rattle.core_pins.specs.Commits.{set_to, add_to, update_of};
 ghost use Rattle.core_pins.specs.SmallHistories.{chain, exchange, sixteen};
 
 use air_base::NoMemory;

@@ -9,7 +9,7 @@ ghost use Rattle.air_history.specs.declared.histories.Event.{Event};
 ghost use Rattle.air_history.specs.Clashes.{IsCurrent, clash_by_history, read_at};
 ghost use Rattle.air_history.specs.ClashLaws.{HasAiredEntries};
 ghost use Rattle.air_history.specs.Columns.{aired_entries, scheme_of};
-ghost use Rattle.core_pins.specs.SmallReads.{heard, two};
+ghost use Rattle.core_pins.specs.SmallReads.{read_with_entries, two};
 
 use air_base::Clash;
 use vector_policies::{DataHeld, RHeld};
@@ -17,7 +17,7 @@ use vector_policies::{DataHeld, RHeld};
 /// Datacycle names a read of the newest held cycle where its vector has the new item at the new cycle. It also refuses that the
 /// oldest held cycle decides.
 pub fn another_cycle_for_the_newest(held: &DataHeld, vector: &[u32]) -> Option<Clash>
-    requires held { held.now ≡ two (heard 0 2 0 0 0) (heard 1 4 0 0 3) }
+    requires held { held.now ≡ two (read_with_entries 0 2 0 0 0) (read_with_entries 1 4 0 0 3) }
     requires vector { vector.now ≡ 0 ∷ 0 ∷ 0 ∷ [] }
     ensures { result ≡ Some (record { item = 1; cycle = 4 }) }
 {
@@ -27,7 +27,7 @@ pub fn another_cycle_for_the_newest(held: &DataHeld, vector: &[u32]) -> Option<C
 /// R-Matrix names the held read that is stale, whichever was held first, where the new item was written since the first held cycle.
 /// It also refuses that the last held cycle decides.
 pub fn first_named_for_the_stale(held: &RHeld, vector: &[u32]) -> Option<Clash>
-    requires held { held.now ≡ two (heard 0 2 0 0 0) (heard 1 3 0 0 2) }
+    requires held { held.now ≡ two (read_with_entries 0 2 0 0 0) (read_with_entries 1 3 0 0 2) }
     requires vector { vector.now ≡ 0 ∷ 4 ∷ 2 ∷ [] }
     ensures { result ≡ Some (record { item = 1; cycle = 3 }) }
 {
@@ -37,17 +37,17 @@ pub fn first_named_for_the_stale(held: &RHeld, vector: &[u32]) -> Option<Clash>
 /// A write that is 255 cycles old may be heard as none: by every history that has it so the answer stays its own. It refuses a cap
 /// that is one cycle late.
 pub fn capped_one_cycle_late(held: &DataHeld, vector: &[u32]) -> Option<Clash>
-    requires held { held.now ≡ record { n = 3; reads = heard 0 2 0 1 0 ∷ [] } }
+    requires held { held.now ≡ record { n = 3; reads = read_with_entries 0 2 0 1 0 ∷ [] } }
     requires vector { vector.now ≡ 0 ∷ 0 ∷ 2 ∷ [] }
     ensures { (H : List Event) → aired_entries (scheme_of Datacycle) 3 H 2 0 ≡ 0 ∷ 1 ∷ 0 ∷ [] → aired_entries (scheme_of Datacycle) 3 H 256 2 ≡ 0 ∷ 1 ∷ 2 ∷ [] →
-        result ≡ clash_by_history Datacycle H (read_at (heard 0 2 0 1 0) ∷ []) (read_at (heard 2 256 0 0 2)) }
+        result ≡ clash_by_history Datacycle H (read_at (read_with_entries 0 2 0 1 0) ∷ []) (read_at (read_with_entries 2 256 0 0 2)) }
 {
     held.clashes(2, 256, vector)
 }
 
 /// In a new newest cycle Datacycle names the held read that is stale there.
 pub fn newest_named_for_the_stale(held: &DataHeld, vector: &[u32]) -> Option<Clash>
-    requires held { held.now ≡ two (heard 0 2 0 0 0) (heard 1 4 0 0 0) }
+    requires held { held.now ≡ two (read_with_entries 0 2 0 0 0) (read_with_entries 1 4 0 0 0) }
     requires vector { vector.now ≡ 3 ∷ 0 ∷ 0 ∷ [] }
     ensures { result ≡ Some (record { item = 0; cycle = 2 }) }
 {
@@ -56,7 +56,7 @@ pub fn newest_named_for_the_stale(held: &DataHeld, vector: &[u32]) -> Option<Cla
 
 /// R-Matrix takes a read of an item that wasn't written since the first held cycle, though a held read is stale.
 pub fn second_condition_forgotten(held: &RHeld, vector: &[u32]) -> Option<Clash>
-    requires held { held.now ≡ two (heard 0 2 0 0 0) (heard 1 3 0 0 0) }
+    requires held { held.now ≡ two (read_with_entries 0 2 0 0 0) (read_with_entries 1 3 0 0 0) }
     requires vector { vector.now ≡ 3 ∷ 0 ∷ 0 ∷ [] }
     ensures { result ≡ None }
 {
@@ -65,11 +65,11 @@ pub fn second_condition_forgotten(held: &RHeld, vector: &[u32]) -> Option<Clash>
 
 /// By every history that aired these vectors, a read is taken exactly where all reads stay current.
 pub fn taken_though_a_read_is_stale(held: &DataHeld, vector: &[u32]) -> Option<Clash>
-    requires held { held.now ≡ record { n = 3; reads = heard 0 2 0 0 0 ∷ [] } }
+    requires held { held.now ≡ record { n = 3; reads = read_with_entries 0 2 0 0 0 ∷ [] } }
     requires vector { vector.now ≡ 3 ∷ 0 ∷ 0 ∷ [] }
-    ensures { (H : List Event) → All (HasAiredEntries (scheme_of Datacycle) 3 H) (heard 0 2 0 0 0 ∷ []) → HasAiredEntries (scheme_of Datacycle) 3 H (heard 2 5 3 0 0) →
-        IsCurrent H (read_at (heard 0 2 0 0 0) ∷ []) →
-        (result ≡ None) ↔ IsCurrent H (read_at (heard 0 2 0 0 0) ∷ read_at (heard 2 5 3 0 0) ∷ []) }
+    ensures { (H : List Event) → All (HasAiredEntries (scheme_of Datacycle) 3 H) (read_with_entries 0 2 0 0 0 ∷ []) → HasAiredEntries (scheme_of Datacycle) 3 H (read_with_entries 2 5 3 0 0) →
+        IsCurrent H (read_at (read_with_entries 0 2 0 0 0) ∷ []) →
+        (result ≡ None) ↔ IsCurrent H (read_at (read_with_entries 0 2 0 0 0) ∷ read_at (read_with_entries 2 5 3 0 0) ∷ []) }
 {
     held.clashes(2, 5, vector)
 }

@@ -11,10 +11,10 @@ use Rattle.air_history.specs.declared.histories.Event.TheVariants.{Start}
 use Rattle.air_history.specs.Histories.{is_start, starts, ItemsFit}
 use Rattle.air_history.specs.Tables.{table, values_of, BasesRead}
 use Rattle.air_history.specs.Boards.{Board, board_of}
-use Rattle.control_matrix.specs.BoardSteps.{step_board}
+use Rattle.control_matrix.specs.BoardSteps.{step_all, step_board}
 use Rattle.control_matrix.proofs.BoardLemmas.{board_push}
 use Rattle.cycle_snapshot.specs.Batches.{IsBatch, batch_events}
-use Rattle.cycle_snapshot.specs.Private.BoardRuns.{step_all, after_batch}
+use Rattle.cycle_snapshot.specs.Private.BoardRuns.{after_batch}
 
 -- ---- starts
 

@@ -11,7 +11,8 @@ use Rattle.cycle_snapshot.specs.declared.board_sides.BoardSide.{BoardSide}
 use Rattle.cycle_snapshot.specs.declared.board_sides.News.{News}
 use Rattle.cycle_snapshot.specs.Batches.{IsBatch, batch_events}
 use Rattle.cycle_snapshot.specs.Beginnings.{Beginning}
-use Rattle.cycle_snapshot.specs.Private.BoardRuns.{after_news, step_all}
+use Rattle.control_matrix.specs.BoardSteps.{step_all}
+use Rattle.cycle_snapshot.specs.Private.BoardRuns.{after_news}
 use Rattle.cycle_snapshot.specs.SideRule.{IsPublished, Follows, Agrees, Keeps, Sees, IsNextNews}
 use Rattle.cycle_snapshot.proofs.PrefixLemmas.{prefix_self, prefix_trans}
 use Rattle.cycle_snapshot.proofs.BatchLemmas.{events_more, starts_events, board_values, board_all, batch_taken}

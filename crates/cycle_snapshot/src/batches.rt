@@ -2,7 +2,7 @@
 ghost use Rattle.std.specs.Prelude.{◌≡◌, ◌+◌, ◌<◌, ◌^◌, length, All};
 ghost use Rattle.air_history.specs.Histories.{starts, ItemsFit};
 ghost use Rattle.air_history.specs.Tables.{BasesRead};
-ghost use Rattle.cycle_snapshot.specs.Private.BoardRuns.{step_all};
+ghost use Rattle.control_matrix.specs.BoardSteps.{step_all};
 
 use air_history::Event;
 use control_matrix::Board;

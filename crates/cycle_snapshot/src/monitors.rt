@@ -8,7 +8,7 @@ ghost use Rattle.cycle_snapshot.specs.SnapshotStates.{HasLooked};
 
 use crate::board_sides::BoardSide;
 use crate::frames::KeptFrame;
-use crate::rule::{SideReader, Sight};
+use crate::rule::{SideReader, SightStep};
 use crate::told::Told;
 use air_base::NoMemory;
 use std::marker::Model;
@@ -19,7 +19,7 @@ fn take_frame(reader: SideReader, kept: &mut KeptFrame, told: &Told) -> (SideRea
     ensures looked { (x : BoardSide) → view reader.place ≡ Some x →
         (y : BoardSide) × (view result.0.place ≡ Some y) × Follows x y × MatchOption result.1 (kept.new ≡ kept.old) (HasCopied y told.now kept.new) }
 {
-    let reading = match reader.enter_as::<Sight>() {
+    let reading = match reader.enter_as::<SightStep>() {
         Ok(reading) => reading,
         Err(reader) => {
             return (reader, None);

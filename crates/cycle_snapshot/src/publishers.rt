@@ -9,7 +9,7 @@ ghost use Rattle.cycle_snapshot.specs.SnapshotStates.{with_batch, published_list
 
 use crate::batches::Batch;
 use crate::board_sides::News;
-use crate::rule::{SideWriter, Sight};
+use crate::rule::{SideWriter, SightStep};
 use crate::told::{Head, Told};
 use air_base::NoMemory;
 use air_history::Event;
@@ -29,7 +29,7 @@ fn publish_step<R: Wait>(writer: SideWriter, wait: &R) -> (SideWriter, Result<()
     ensures value { (n : News) → drop writer.behind writer.log.items ≡ n ∷ [] → result.0.desk.shown.value ≡ after_news writer.desk.shown.value n }
     ensures shown { IsPublished result.0.desk.shown.value }
 {
-    writer.publish_as::<Sight, R>(wait)
+    writer.publish_as::<SightStep, R>(wait)
 }
 
 /// It publishes batches. It can't be dropped: `close` ends it.

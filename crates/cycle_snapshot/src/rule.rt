@@ -18,9 +18,9 @@ impl Protocol<BoardSide, Option<BoardSide>> for SideRule {
 }
 
 /// The step that sees the shown copy: a look, or a batch published.
-pub struct Sight;
+pub struct SightStep;
 
-impl Outcome<BoardSide, Option<BoardSide>> for Sight {
+impl Outcome<BoardSide, Option<BoardSide>> for SightStep {
     ghost use Rattle.cycle_snapshot.specs.SideRule.{Sees};
 
     ghost then = { Sees };

@@ -4,7 +4,7 @@ ghost use Rattle.left_right.specs.Sides.{view};
 ghost use Rattle.cycle_snapshot.specs.SideRule.{IsPublished};
 
 use crate::board_sides::BoardSide;
-use crate::rule::{SideReader, SideWriter, Sight, TellRule};
+use crate::rule::{SideReader, SideWriter, SightStep, TellRule};
 use air_base::NoMemory;
 use std::alloc::Global;
 use std::sync::Wait;
@@ -23,7 +23,7 @@ pub fn open_writer<R: Wait>(
     ensures { IfOk result (λ w. (view w.desk.place ≡ Some w.desk.shown.value) × (w.desk.shown.value ≡ first) × (drop w.behind w.log.items ≡ [])) }
 {
     let writer = SideWriter::new(alloc, first, second, readers)?;
-    let (writer, done) = writer.publish_as::<Sight, R>(wait);
+    let (writer, done) = writer.publish_as::<SightStep, R>(wait);
     match done {
         Ok(()) => Ok(writer),
         Err(_) => unreachable!(),

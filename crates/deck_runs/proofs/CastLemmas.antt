@@ -9,7 +9,7 @@ use Rattle.air_model.specs.Programs.{program}
 use Rattle.air_model.proofs.EditionLemmas.{plain_slots}
 use Rattle.air_devices.specs.Counts.{Rose}
 use Rattle.air_devices.specs.Masts.{Changes, MastState, SentBuckets, nothing_sent, with_buckets, with_end}
-use Rattle.air_devices.specs.Told.{WhereTold}
+use Rattle.air_devices.specs.WhatIsTold.{WhereTold}
 use Rattle.deck_runs.specs.DeckBytes.{deck_bytes}
 use Rattle.deck_runs.specs.RunAnswers.{IsRunAnswer}
 use Rattle.deck_runs.specs.declared.threads.RunFault.{RunFault}

@@ -12,7 +12,7 @@ use Rattle.air_model.specs.Closings.{GoesOnWithout}
 use Rattle.update_commit.proofs.EventLemmas.{since_none, since_commit, since_new_start, starts_none}
 use Rattle.station.specs.PassStates.{PassState, with_seen}
 use Rattle.cycle_snapshot.specs.Batches.{IsBatch, batch_events}
-use Rattle.cycle_snapshot.specs.Private.BoardRuns.{step_all}
+use Rattle.control_matrix.specs.BoardSteps.{step_all}
 use Rattle.cycle_snapshot.specs.SnapshotStates.{PublisherState, with_batch}
 use Rattle.cycle_snapshot.proofs.BatchLemmas.{starts_append, events_more, board_all, board_values}
 use Rattle.cycle_snapshot.proofs.PrefixLemmas.{prefix_self, prefix_trans}

@@ -21,7 +21,7 @@ use Rattle.cycle_snapshot.specs.Batches.{IsBatch, batch_events}
 use Rattle.cycle_snapshot.proofs.BatchLemmas.{events_more}
 use Rattle.air_base.specs.declared.verdicts.Form.{Form}
 use Rattle.air_history.specs.Boards.{Board, board_of}
-use Rattle.air_sender.specs.BoardBuckets.{IsLastBoard, cycle_bytes}
+use Rattle.air_sender.specs.BoardBuckets.{IsLastBoard, board_bytes}
 use Rattle.air_sender.proofs.SendLemmas.{length_cycle}
 use Rattle.station.specs.PassStates.{PassState}
 use Rattle.cycle_snapshot.specs.SnapshotStates.{PublisherState}
@@ -214,7 +214,7 @@ module _ (p q : PassState) (f g : PublisherState) (b : Board) (on : GoesOn p q) 
 
     -- or those before the one at which the mast failed
     pub cycle_failed : {M : Type 0} (state : M → MastState) (slot : ℕ) (before now : M) → Changes (with_buckets (take slot (last_bytes p.values air front))) (state before).told (state now).told
-        → FailedAt state slot (cycle_bytes form 0 slots b) before now → FailsAfter state p.values air slot (batch_events f.batches) (batch_events g.batches) before now
+        → FailedAt state slot (board_bytes form 0 slots b) before now → FailsAfter state p.values air slot (batch_events f.batches) (batch_events g.batches) before now
     cycle_failed state slot before now sent failed = record {
       more = last_bytes p.values air front;
       aired = bytes;
@@ -230,11 +230,11 @@ module _ (p q : PassState) (f g : PublisherState) (b : Board) (on : GoesOn p q) 
     }
 
     pub cycle_failed_by : {M : Type 0} (state : M → MastState) (e : AirFault) (n : ℕ) (before now : M) → n ≡ failed_slot e → Changes (with_buckets (take (failed_slot e) (last_bytes p.values air front))) (state before).told (state now).told
-        → IsAirAnswer state (cycle_bytes form 0 slots b) before now e → FailsAfter state p.values air n (batch_events f.batches) (batch_events g.batches) before now
+        → IsAirAnswer state (board_bytes form 0 slots b) before now e → FailsAfter state p.values air n (batch_events f.batches) (batch_events g.batches) before now
     cycle_failed_by state (fault.Mast slot) n before now is sent failed =
         subst (λ m. FailsAfter state p.values air m (batch_events f.batches) (batch_events g.batches) before now) (sym is) (cycle_failed state slot before now sent failed)
 
-pub within_cycle : {M : Type 0} (state : M → MastState) (form : Form) (slots : List (Option ℕ)) (b : Board) (e : AirFault) (n : ℕ) (before now : M) → n ≡ failed_slot e → IsAirAnswer state (cycle_bytes form 0 slots b) before now e → n < length slots
+pub within_cycle : {M : Type 0} (state : M → MastState) (form : Form) (slots : List (Option ℕ)) (b : Board) (e : AirFault) (n : ℕ) (before now : M) → n ≡ failed_slot e → IsAirAnswer state (board_bytes form 0 slots b) before now e → n < length slots
 within_cycle state form slots b (fault.Mast slot) n before now is failed = let w = failed.within in let l = length_cycle form 0 slots b in omega arith
 
 pub rose_by : {M : Type 0} (state : M → MastState) (bs : List (List ℕ)) (e : AirFault) (before now : M) → IsAirAnswer state bs before now e → Rose (state before).faults (state now).faults

@@ -17,7 +17,7 @@ use Rattle.deck_runs.specs.declared.jobs.crews.ConductorRun.{ConductorRun}
 use Rattle.deck_runs.specs.declared.jobs.crews.UpdaterRun.{UpdaterRun}
 use Rattle.deck_runs.specs.Crews.{CanConduct, EachDone, HasMadeUpdates, HasNewPass, passes_of}
 use Rattle.deck_runs.specs.PublishedBatches.{GoesOn}
-use Rattle.deck_runs.specs.Private.StageSteps.{AreNewUpdaters, HasEndedUpdates, HaveEnded, IsOpen, IsPlayed}
+use Rattle.deck_runs.specs.Private.StageSteps.{AreNewUpdaters, HasEndedUpdates, HaveEnded, IsPlayed, IsUnplayed}
 use Rattle.deck_runs.specs.declared.threads.stages.Stage.{Stage}
 
 pub all_ready : (station : TurnstileId) (deck : Deck) (runs : List UpdaterRun) → AreNewUpdaters station deck runs → All (HasNewPass station deck) runs
@@ -93,15 +93,15 @@ pub can_conduct : (deck : Deck) (at : TurnstileId) (run : ConductorRun) (station
 can_conduct deck at run station pass same is new board buffer = record { pass = is ∙ new ∙ ap (λ t. new_pass t deck (length deck.updates)) (sym same); board = board; buffer = buffer }
 
 -- A stage after the jobs.
-pub is_played : (s t : Stage) → IsOpen s → GoesOn s.conductor.pass t.conductor.pass → starts t.conductor.pass.seen ≤ s.planned.now.settings.cycles → EachDone s.planned.now s.updaters.items t.updaters.items → t.planned ≡ s.planned → t.station ≡ s.station → t.passes ≡ s.passes → IsPlayed t
-is_played s t opened on few done planned station passes =
+pub is_played : (s t : Stage) → IsUnplayed s → GoesOn s.conductor.pass t.conductor.pass → starts t.conductor.pass.seen ≤ s.planned.now.settings.cycles → EachDone s.planned.now s.updaters.items t.updaters.items → t.planned ≡ s.planned → t.station ≡ s.station → t.passes ≡ s.passes → IsPlayed t
+is_played s t unplayed on few done planned station passes =
     let same : t.planned.now ≡ s.planned.now = ap (λ p. p.now) planned in
     let at_first : (s.conductor.pass ≡ new_pass t.station t.planned.now (length t.planned.now.updates)) =
-    opened.conductor.pass ∙ ap (λ d. new_pass s.station d (length d.updates)) (sym same) ∙ ap (λ at. new_pass at t.planned.now (length t.planned.now.updates)) (sym station) in
+    unplayed.conductor.pass ∙ ap (λ d. new_pass s.station d (length d.updates)) (sym same) ∙ ap (λ at. new_pass at t.planned.now (length t.planned.now.updates)) (sym station) in
     record {
       pass = on.same ∙ ap (λ p. with_seen p t.conductor.pass.seen) at_first;
       few = subst (λ d. starts t.conductor.pass.seen ≤ d.settings.cycles) (sym same) few;
       updaters = subst (λ d. HaveEnded t.station d t.updaters.items) (sym same)
-          (subst (λ at. HaveEnded at s.planned.now t.updaters.items) (sym station) (have_ended s.station s.planned.now s.updaters.items t.updaters.items opened.updaters done));
-      room = (ap (λ p. p.items) passes ∙ opened.room.0, let most = opened.room.1 in let size = ap vec_capacity passes in let count = done.0 in omega arith);
+          (subst (λ at. HaveEnded at s.planned.now t.updaters.items) (sym station) (have_ended s.station s.planned.now s.updaters.items t.updaters.items unplayed.updaters done));
+      room = (ap (λ p. p.items) passes ∙ unplayed.room.0, let most = unplayed.room.1 in let size = ap vec_capacity passes in let count = done.0 in omega arith);
     }

@@ -3,7 +3,7 @@
 ghost use Rattle.std.specs.Prelude.{◌≡◌, None, Some, IfErr, IfOk, OnErr, OnOk};
 ghost use Rattle.air_devices.specs.Counts.{Rose};
 ghost use Rattle.air_devices.specs.Masts.{Changes, nothing_sent, with_end};
-ghost use Rattle.air_devices.specs.Told.{WhereTold};
+ghost use Rattle.air_devices.specs.WhatIsTold.{WhereTold};
 ghost use Rattle.air_model.specs.Batches.{AirsByBatches};
 ghost use Rattle.air_model.specs.Runs.{IsRun};
 ghost use Rattle.deck_runs.specs.DeckBytes.{deck_bytes};

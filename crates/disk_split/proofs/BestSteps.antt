@@ -8,7 +8,7 @@ use Rattle.std.proofs.lemmas.Option.{none-some, same_Some}
 use Rattle.disk_split.specs.declared.search.BestSizes.{BestSizes}
 use Rattle.disk_split.specs.Splits.{is_before}
 use Rattle.disk_split.specs.Private.Bests.{IsBestBelow, IsFound, better, cost_from, is_better}
-use Rattle.disk_split.specs.Private.Rests.{IsFirst, IsSplitRest, minor_from, weight_from}
+use Rattle.disk_split.specs.Rests.{IsFirst, IsSplitRest, minor_from, weight_from}
 use Rattle.disk_split.specs.Private.Tables.{IsCell}
 use Rattle.disk_split.proofs.Orders.{before_not, not_before}
 

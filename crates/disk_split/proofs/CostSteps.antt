@@ -4,7 +4,7 @@ use Rattle.std.proofs.lemmas.Bool.{cases_lt}
 use Rattle.std.proofs.lemmas.List.{drop_all, drop_more}
 use Rattle.std.proofs.lemmas.List.Elements.{All-get_or}
 use Rattle.air_base.specs.declared.limits.TheConstants.{MOST_SLOTS}
-use Rattle.disk_split.specs.Private.Rests.{AreChunks, AreSums, IsSplitRest, chunk_slots, minor_from, rates_from, weight_from}
+use Rattle.disk_split.specs.Rests.{AreChunks, AreSums, IsSplitRest, chunk_slots, minor_from, rates_from, weight_from}
 use Rattle.disk_split.proofs.RestLemmas.{rest_within}
 use Rattle.disk_split.proofs.TableSteps.{product_small}
 

@@ -10,8 +10,8 @@ use Rattle.air_model.specs.Disks.{Disk, DiskSpec, cut, order}
 use Rattle.air_model.specs.Programs.{chunk_len, least_common_multiple, minor_len, num_chunks, num_minors}
 use Rattle.air_model.proofs.ItemOrder.{length-order}
 use Rattle.disk_split.specs.Splits.{IsSplit, minor_of, resized, slots_of, split_disks}
-use Rattle.disk_split.specs.Private.Numbers.{chunks_in, hot_rates, minors_in, sums_of}
-use Rattle.disk_split.specs.Private.Rests.{IsSplitRest, chunk_slots, minor_from, rates_from, weight_from}
+use Rattle.disk_split.specs.Numbers.{chunks_in, hot_rates, minors_in, sums_of}
+use Rattle.disk_split.specs.Rests.{IsSplitRest, chunk_slots, minor_from, rates_from, weight_from}
 use Rattle.disk_split.proofs.RateLemmas.{length-sums_of, rates_between}
 use Rattle.disk_split.proofs.RestLemmas.{rest_within}
 

@@ -15,8 +15,8 @@ use Rattle.air_model.specs.Programs.{least_common_multiple}
 use Rattle.air_model.proofs.CommonMultiples.{least_common_first, least_common_pos, least_common_second}
 use Rattle.air_model.proofs.ItemOrder.{length-order}
 use Rattle.item_catalog.specs.DeckLimits.{WithinLimits}
-use Rattle.disk_split.specs.Private.Numbers.{chunks_in, hot_rates, minors_in}
-use Rattle.disk_split.specs.Private.Rests.{AreChunks, AreSums}
+use Rattle.disk_split.specs.Numbers.{chunks_in, hot_rates, minors_in}
+use Rattle.disk_split.specs.Rests.{AreChunks, AreSums}
 use Rattle.disk_split.proofs.DeckLemmas.{deck_sums, length-hot_rates}
 use Rattle.disk_split.proofs.RateLemmas.{are_sums}
 use Rattle.disk_split.proofs.SearchLemmas.{fits_quotient}

@@ -17,7 +17,7 @@ use Rattle.std.proofs.lemmas.List.Sums.{sum_by-cons}
 use Rattle.air_model.specs.Decks.{Deck, rates_in}
 use Rattle.air_model.specs.Disks.{is_hotter, order, order_with}
 use Rattle.air_model.proofs.ItemOrder.{order_only}
-use Rattle.disk_split.specs.Private.Numbers.{hot_rates}
+use Rattle.disk_split.specs.Numbers.{hot_rates}
 
 -- ---- sums over the order
 sum_with : (g : ℕ → ℕ) (rates js : List ℕ) (i : ℕ) → sum_by g (order_with rates js i) ≡ g i + sum_by g js

@@ -7,8 +7,8 @@ use Rattle.std.proofs.lemmas.List.Elements.{All-contains, All-head, All-more, Al
 use Rattle.std.proofs.lemmas.List.Sums.{sum_by-cons, sum_by_more, sum_by-le, sum_by-take-le}
 use Rattle.std.proofs.lemmas.Option.{same_Some}
 use Rattle.air_model.proofs.Elements.{contains_has}
-use Rattle.disk_split.specs.Private.Numbers.{IsLeastMinor}
-use Rattle.disk_split.specs.Private.Rests.{IsSplitRest, chunk_slots, minor_from}
+use Rattle.disk_split.specs.Numbers.{IsLeastMinor}
+use Rattle.disk_split.specs.Rests.{IsSplitRest, chunk_slots, minor_from}
 use Rattle.disk_split.proofs.RestLemmas.{covers, fewest, filled, slots_many}
 
 -- ---- no sizes have fewer

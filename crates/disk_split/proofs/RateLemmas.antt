@@ -6,8 +6,8 @@ use Rattle.std.proofs.lemmas.List.{drop-take, get_or_past, take-take}
 use Rattle.std.proofs.lemmas.List.FromFn.{get_or-map-range_with_len, length-map-range_with_len, map-range_with_len_more}
 use Rattle.std.proofs.lemmas.List.Sums.{sum_by_more, sum_by-take-drop, sum_by-take-le}
 use Rattle.air_base.specs.declared.limits.TheConstants.{ITEM_NUMBERS}
-use Rattle.disk_split.specs.Private.Numbers.{sums_of}
-use Rattle.disk_split.specs.Private.Rests.{AreSums, rates_from}
+use Rattle.disk_split.specs.Numbers.{sums_of}
+use Rattle.disk_split.specs.Rests.{AreSums, rates_from}
 
 -- ---- the sums
 pub length-sums_of : (rates : List ℕ) → length (sums_of rates) ≡ length rates + 1

@@ -6,7 +6,7 @@ use Rattle.std.proofs.lemmas.List.Elements.{All-head, All-tail}
 use Rattle.std.proofs.lemmas.Nat.{mod_below}
 use Rattle.std.proofs.Math.Nat.{div-add-mod', mul-le-mul_left, mul-le-mul_right}
 use Rattle.air_base.specs.declared.limits.TheConstants.{MOST_SLOTS}
-use Rattle.disk_split.specs.Private.Rests.{AreChunks, AreSums, IsSplitRest, chunk_slots, minor_from, weight_from}
+use Rattle.disk_split.specs.Rests.{AreChunks, AreSums, IsSplitRest, chunk_slots, minor_from, weight_from}
 
 -- ---- the slots of a chunk
 pub covers : (c s : ℕ) → 1 ≤ c → s ≤ chunk_slots c s * c

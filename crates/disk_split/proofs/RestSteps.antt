@@ -5,7 +5,7 @@ use Rattle.std.proofs.lemmas.Bool.{cases_lt}
 use Rattle.std.proofs.lemmas.Option.{same_Some}
 use Rattle.disk_split.specs.declared.sizes.RestToPlace.{RestToPlace}
 use Rattle.disk_split.specs.Splits.{is_before}
-use Rattle.disk_split.specs.Private.Rests.{IsFirst, IsSplitRest, IsRestOf, chunk_slots, minor_from, weight_from}
+use Rattle.disk_split.specs.Rests.{IsFirst, IsSplitRest, IsRestOf, chunk_slots, minor_from, weight_from}
 use Rattle.disk_split.specs.Private.RestsToPlace.{IsAfter, IsFirstSize, IsLeastRest}
 use Rattle.disk_split.specs.Private.Tables.{HasCells, IsCell}
 use Rattle.disk_split.proofs.Orders.{later_head, same_head}

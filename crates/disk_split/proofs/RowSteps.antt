@@ -2,7 +2,7 @@
 use Rattle.std.proofs.Common.{◌≡◌, ◌≤◌, ◌<◌, ◌⊎◌, inl, inr, ◌+◌, ◌-◌, ◌*◌, ℕ, Option, Some, None, List, [], ◌∷◌, length, slice_index, min, refl, subst, ap, arith}
 use Rattle.std.proofs.lemmas.Bool.{cases_lt}
 use Rattle.std.proofs.lemmas.Option.{none-some, same_Some}
-use Rattle.disk_split.specs.Private.Rests.{IsSplitRest, IsRestOf, chunk_slots, minor_from, rates_from, weight_from}
+use Rattle.disk_split.specs.Rests.{IsSplitRest, IsRestOf, chunk_slots, minor_from, rates_from, weight_from}
 use Rattle.disk_split.specs.Private.Tables.{IsCell, IsCellBelow, lesser_weight_with}
 use Rattle.disk_split.proofs.RestLemmas.{rest_within}
 

@@ -9,8 +9,8 @@ use Rattle.air_model.specs.Decks.{Deck, IsDeck}
 use Rattle.disk_split.specs.Splits.{IsBest, IsShortSplit, IsSplit, cost, minor_of}
 use Rattle.disk_split.specs.SplitAnswers.{AreAllTooLong}
 use Rattle.disk_split.specs.Private.Bests.{IsBestBelow, IsFound, cost_from}
-use Rattle.disk_split.specs.Private.Numbers.{IsLeastMinor, chunks_in, minors_in}
-use Rattle.disk_split.specs.Private.Rests.{AreChunks, IsSplitRest, minor_from, weight_from}
+use Rattle.disk_split.specs.Numbers.{IsLeastMinor, chunks_in, minors_in}
+use Rattle.disk_split.specs.Rests.{AreChunks, IsSplitRest, minor_from, weight_from}
 use Rattle.disk_split.proofs.CostLemmas.{cost_is}
 use Rattle.disk_split.proofs.DeckLemmas.{deck_sums, length-deck_sums, minor_walk, rest_split, slots_walk, split_rest, weight_walk}
 use Rattle.disk_split.proofs.RestLemmas.{slots_few, slots_many}

@@ -12,8 +12,8 @@ use Rattle.air_model.specs.Programs.{chunk_len, least_common_multiple, minor_len
 use Rattle.air_model.specs.Rows.{rows_text}
 use Rattle.disk_split.specs.SplitAnswers.{AreAllTooLong, search_size}
 use Rattle.disk_split.specs.Splits.{IsShortSplit, IsSplit, cost, is_before, minor_of, resized, slots_of, split_row, split_text}
-use Rattle.disk_split.specs.Private.Numbers.{chunks_in, minors_in}
-use Rattle.disk_split.specs.Private.Rests.{minor_from}
+use Rattle.disk_split.specs.Numbers.{chunks_in, minors_in}
+use Rattle.disk_split.specs.Rests.{minor_from}
 use Rattle.disk_split.proofs.DeckLemmas.{deck_sums, slots_walk, split_rest}
 use Rattle.disk_split.proofs.RestLemmas.{slots_many}
 

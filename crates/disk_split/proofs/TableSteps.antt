@@ -8,7 +8,7 @@ use Rattle.std.proofs.lemmas.Bool.Decides.{nat_tests}
 use Rattle.std.proofs.lemmas.List.{drop-drop, get_or_append_left, get_or_past, get_or_push, take_rest}
 use Rattle.std.proofs.lemmas.Option.{none-some}
 use Rattle.air_base.specs.declared.limits.TheConstants.{MOST_SLOTS}
-use Rattle.disk_split.specs.Private.Rests.{AreChunks, AreSums, IsSplitRest, chunk_slots, rates_from, weight_from}
+use Rattle.disk_split.specs.Rests.{AreChunks, AreSums, IsSplitRest, chunk_slots, rates_from, weight_from}
 use Rattle.disk_split.specs.Private.Tables.{HasCellsUpTo, IsCell, IsCellBelow, IsTableRow, IsTable, improved, lesser_weight_with}
 use Rattle.disk_split.proofs.RestLemmas.{slots_few, weight_small}
 use Rattle.disk_split.proofs.RowSteps.{all_below, below_one, last_later, last_none, last_zero, skipped, stepped}

@@ -1,6 +1,4 @@
 -- Definitions that private steps alone speak of: no public contract cites them, nor what a public type shows.
-pub mod Numbers
-pub mod Rests
 pub mod Tables
 pub mod RestsToPlace
 pub mod Bests

@@ -3,7 +3,7 @@
 ghost use Rattle.std.specs.Prelude.{◌≡◌};
 ghost use Rattle.disk_split.specs.Splits.{sizes_in};
 ghost use Rattle.disk_split.specs.Private.Bests.{cost_from};
-ghost use Rattle.disk_split.specs.Private.Rests.{AreChunks, AreSums, IsSplitRest};
+ghost use Rattle.disk_split.specs.Rests.{AreChunks, AreSums, IsSplitRest};
 
 use crate::lengths::chunk_slots;
 use item_catalog::Deck;

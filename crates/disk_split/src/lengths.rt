@@ -1,8 +1,8 @@
 //! The slots of a minor cycle: of a chunk, and the fewest of any split.
 
 ghost use Rattle.std.specs.Prelude.{◌≡◌, ◌<◌, ◌≤◌, ℕ, ◌+◌, ◌^◌, All, List, length};
-ghost use Rattle.disk_split.specs.Private.Numbers.{IsLeastMinor};
-ghost use Rattle.disk_split.specs.Private.Rests.{chunk_slots};
+ghost use Rattle.disk_split.specs.Numbers.{IsLeastMinor};
+ghost use Rattle.disk_split.specs.Rests.{chunk_slots};
 
 /// The slots of a chunk: the items of a disk divided among its chunks, rounded up.
 pub fn chunk_slots(chunks: u64, size: u64) -> u64

@@ -2,7 +2,7 @@
 
 ghost use Rattle.std.specs.Prelude.{◌≡◌, ◌<◌, ◌≤◌, ◌*◌, ◌^◌, IfOk};
 ghost use Rattle.air_model.specs.Programs.{least_common_multiple};
-ghost use Rattle.disk_split.specs.Private.Numbers.{chunks_in, minors_in};
+ghost use Rattle.disk_split.specs.Numbers.{chunks_in, minors_in};
 
 use item_catalog::Deck;
 use std::alloc::{AllocError, Global};

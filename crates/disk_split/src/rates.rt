@@ -2,7 +2,7 @@
 
 ghost use Rattle.std.specs.Prelude.{◌≡◌, ◌<◌, ◌^◌, IfOk, map, sum};
 ghost use Rattle.air_model.specs.Decks.{rates_in};
-ghost use Rattle.disk_split.specs.Private.Numbers.{hot_rates, sums_of};
+ghost use Rattle.disk_split.specs.Numbers.{hot_rates, sums_of};
 
 use item_catalog::Deck;
 use std::alloc::{AllocError, Global};

@@ -2,7 +2,7 @@
 
 ghost use Rattle.std.specs.Prelude.{◌≡◌, ◌<◌, IfOk, length};
 ghost use Rattle.disk_split.specs.Private.Bests.{IsFound, better, is_better};
-ghost use Rattle.disk_split.specs.Private.Rests.{AreChunks, AreSums};
+ghost use Rattle.disk_split.specs.Rests.{AreChunks, AreSums};
 
 use crate::sizes::{RestToPlace, sizes};
 use crate::tables::tables;

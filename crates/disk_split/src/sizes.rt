@@ -2,7 +2,7 @@
 
 ghost use Rattle.std.specs.Prelude.{◌<◌, ◌≤◌, ◌+◌, IfOk, MatchOption, drop, length, slice_index};
 ghost use Rattle.disk_split.specs.declared.sizes.RestToPlace.{RestToPlace as ModelRest};
-ghost use Rattle.disk_split.specs.Private.Rests.{AreChunks, AreSums, IsFirst};
+ghost use Rattle.disk_split.specs.Rests.{AreChunks, AreSums, IsFirst};
 ghost use Rattle.disk_split.specs.Private.RestsToPlace.{IsAfter, IsFirstSize, IsLeastRest};
 ghost use Rattle.disk_split.specs.Private.Tables.{HasCells, HaveCells};
 

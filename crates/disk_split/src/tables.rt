@@ -4,7 +4,7 @@
 //! cycle: the least weight of all sizes with that number, or none.
 
 ghost use Rattle.std.specs.Prelude.{◌≡◌, ◌<◌, ℕ, ◌+◌, ◌^◌, [], ◌∷◌, Some, None, IfOk, drop, if◌then◌else◌, length, slice_index_or};
-ghost use Rattle.disk_split.specs.Private.Rests.{AreChunks, AreSums};
+ghost use Rattle.disk_split.specs.Rests.{AreChunks, AreSums};
 ghost use Rattle.disk_split.specs.Private.Tables.{AreTables, HasCellsUpTo, IsTableRow, IsTable, improved, lesser_weight};
 
 use crate::lengths::chunk_slots;

@@ -15,7 +15,7 @@ use crate::records::before::RecordsBefore;
 use crate::records::fields::deck_field_note;
 use crate::records::quotes::open_quote_line;
 use crate::records::shapes::{count_note, tag_note};
-use crate::records::tags::{Line, Tag, deck_line};
+use crate::records::tags::{RecordTag, TaggedForm, deck_form};
 use crate::records::{FoundRecord, Kind, Record, find};
 use crate::words::sentences::Sentence;
 use crate::words::texts::ShownText;
@@ -27,27 +27,27 @@ use std::alloc::Global;
 const TAGS: &str = "item, disk, update, reader, query, script and set";
 
 /// Of whom a note on a record tells.
-fn subject_of<'a>(before: &RecordsBefore, record: &'a Record, line: Line) -> Sentence<'a> {
+fn subject_of<'a>(before: &RecordsBefore, record: &'a Record, known: TaggedForm) -> Sentence<'a> {
     let text = record.field(1);
-    let (wording, number) = match line.tag {
-        Tag::Item if read_u64(text.as_bytes()).is_some() => ("#name# #text# ", 0),
-        Tag::Disk => ("#name# #first# ", before.disks),
-        Tag::Reader => ("#name# #first# ", before.readers),
+    let (wording, number) = match known.tag {
+        RecordTag::Item if read_u64(text.as_bytes()).is_some() => ("#name# #text# ", 0),
+        RecordTag::Disk => ("#name# #first# ", before.disks),
+        RecordTag::Reader => ("#name# #first# ", before.readers),
         _ => ("the #name# ", 0),
     };
-    Sentence::words(wording, text, line.name, "").with(number, 0, "")
+    Sentence::words(wording, text, known.name, "").with(number, 0, "")
 }
 
 /// What is wrong with a record; none where that isn't found.
-fn sentence_of<'a>(found: &'a FoundRecord, line: Line, kind: u8) -> Option<Sentence<'a>> {
+fn sentence_of<'a>(found: &'a FoundRecord, known: TaggedForm, kind: u8) -> Option<Sentence<'a>> {
     let FoundRecord { record, before, .. } = found;
     match kind {
-        1 => Some(count_note(record, line)),
-        2 => deck_field_note(record, line.form),
+        1 => Some(count_note(record, known)),
+        2 => deck_field_note(record, known.form),
         3 => Some(id_note(before, record)),
-        4 => undeclared_note(before, record, line.tag),
-        5 => twice_note(record, line.tag),
-        7 => deck_field_note(record, line.form).or(total_note(before, record, line.tag)),
+        4 => undeclared_note(before, record, known.tag),
+        5 => twice_note(record, known.tag),
+        7 => deck_field_note(record, known.form).or(total_note(before, record, known.tag)),
         8 => unread_note(record),
         10 => setting_note(before, record),
         11 => overdrawn_note(before, record),
@@ -64,12 +64,12 @@ fn note_parts<'a>(found: &'a FoundRecord, kind: u8) -> Option<(Sentence<'a>, Sen
         Kind::End => return Some((nobody, end_note(before))),
         Kind::Nothing => return None,
     }
-    let Some(line) = deck_line(record.field(0)) else {
+    let Some(known) = deck_form(record.field(0)) else {
         return Some((nobody, tag_note(record, TAGS)));
     };
-    let sentence = sentence_of(found, line, kind)?;
+    let sentence = sentence_of(found, known, kind)?;
     let subject = match kind {
-        2 | 4 | 5 | 7 => subject_of(before, record, line),
+        2 | 4 | 5 | 7 => subject_of(before, record, known),
         _ => nobody,
     };
     Some((subject, sentence))

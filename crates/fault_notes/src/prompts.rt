@@ -117,7 +117,7 @@ fn note_parts<'a>(
 }
 
 /// What stands before a form in the usage.
-fn front_of(is_first: bool) -> &'static str {
+fn before_form(is_first: bool) -> &'static str {
     if is_first {
         "\nusage: airdisk "
     } else {
@@ -127,7 +127,7 @@ fn front_of(is_first: bool) -> &'static str {
 
 /// Adds a form to the usage, as its first line or as another one.
 fn add_form(form: &str, is_first: bool, note: &mut String) -> Result<(), NoMemory> {
-    note.push_str(front_of(is_first))?;
+    note.push_str(before_form(is_first))?;
     note.push_str(form)?;
     Ok(())
 }

@@ -6,7 +6,7 @@ use crate::records::before::RecordsBefore;
 use crate::records::fields::report_field_note;
 use crate::records::lists::{Test, first_failing};
 use crate::records::shapes::{count_note, tag_note};
-use crate::records::tags::{Line, Tag, report_line, section};
+use crate::records::tags::{RecordTag, TaggedForm, report_form, section};
 use crate::records::{FoundRecord, Kind, Record, find};
 use crate::reports::strangers::{commit_note, stranger_note};
 use crate::words::sentences::Sentence;
@@ -42,7 +42,7 @@ fn rule_of(kind: u8) -> Sentence<'static> {
 }
 
 /// A line of a later section stands above; none where none does.
-fn order_note(before: &RecordsBefore, tag: Tag) -> Option<Sentence<'static>> {
+fn order_note(before: &RecordsBefore, tag: RecordTag) -> Option<Sentence<'static>> {
     for place in section(tag) + 1..5 {
         if let Some((row, name)) = before.begun[place] {
             let wording =
@@ -54,9 +54,9 @@ fn order_note(before: &RecordsBefore, tag: Tag) -> Option<Sentence<'static>> {
 }
 
 /// A cycle of a line hasn't been started above it.
-fn cycle_note<'a>(starts: u64, record: &'a Record, tag: Tag) -> Sentence<'a> {
+fn cycle_note<'a>(starts: u64, record: &'a Record, tag: RecordTag) -> Sentence<'a> {
     let (wording, text) = match tag {
-        Tag::Glance | Tag::Look => (
+        RecordTag::Glance | RecordTag::Look => (
             "has the cycle #text#: it is at most the number of start lines above, which is #second#",
             record.field(2),
         ),
@@ -78,17 +78,17 @@ fn cycle_note<'a>(starts: u64, record: &'a Record, tag: Tag) -> Sentence<'a> {
 fn sentence_of<'a>(
     deck: Option<&Deck>,
     found: &'a FoundRecord,
-    line: Line,
+    known: TaggedForm,
     kind: u8,
 ) -> Option<Sentence<'a>> {
     let FoundRecord { record, before, .. } = found;
     match (kind, deck) {
-        (1, _) => Some(count_note(record, line)),
-        (2, _) => report_field_note(record, line.form),
-        (4, _) => order_note(before, line.tag),
+        (1, _) => Some(count_note(record, known)),
+        (2, _) => report_field_note(record, known.form),
+        (4, _) => order_note(before, known.tag),
         (5, Some(deck)) => Some(commit_note(deck, before, record)),
-        (6, Some(deck)) => stranger_note(deck, record, line.tag),
-        (7, _) => Some(cycle_note(before.starts, record, line.tag)),
+        (6, Some(deck)) => stranger_note(deck, record, known.tag),
+        (7, _) => Some(cycle_note(before.starts, record, known.tag)),
         _ => None,
     }
 }
@@ -104,13 +104,13 @@ fn note_parts<'a>(
     if !matches!(found.kind, Kind::Record) {
         return (nobody, rule_of(kind));
     }
-    let Some(line) = report_line(record.field(0)) else {
+    let Some(known) = report_form(record.field(0)) else {
         return (nobody, tag_note(record, TAGS));
     };
-    match sentence_of(deck, found, line, kind) {
+    match sentence_of(deck, found, known, kind) {
         Some(sentence) if kind == 1 => (nobody, sentence),
         Some(sentence) => (
-            Sentence::words("the #name# line ", "", line.name, ""),
+            Sentence::words("the #name# line ", "", known.name, ""),
             sentence,
         ),
         None => (nobody, rule_of(kind)),

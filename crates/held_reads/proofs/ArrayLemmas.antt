@@ -5,7 +5,7 @@ use Rattle.std.proofs.lemmas.Bool.{cases_eq, eq-eqb, ne_eqb, cond-true, cond-fal
 use Rattle.std.proofs.lemmas.List.{get_or-replicate, length-replicate, get_or-set_same, get_or-set_other, length-set, map-append, take_more_set}
 use Rattle.std.proofs.lemmas.List.FromFn.{fill_by_all, get_or-map-range_with_len, length-map-range_with_len}
 use Rattle.std.proofs.lemmas.List.Elements.{All-head, All-tail, All-append, All-cons}
-use Rattle.air_history.specs.Clashes.{Heard}
+use Rattle.air_history.specs.Clashes.{HeardRead}
 use Rattle.held_reads.specs.declared.cycles.TheConstants.{NOT_HELD}
 use Rattle.held_reads.specs.declared.reads.HeldRead.{HeldRead}
 use Rattle.held_reads.specs.HeardReads.{heard_of_held}
@@ -24,7 +24,7 @@ pub no_cycles : (n : ℕ) → cycles_of (record { n = n; reads = [] }) ≡ repli
 no_cycles n = sym (fill_by_all (held_cycle []) (replicate n NOT_HELD) n 0 (length-replicate n NOT_HELD) (λ k l. get_or-replicate n k NOT_HELD 0 l))
 
 -- An entry below the greatest number is the cycle of a held read.
-pub is_held : (R : List Heard) (i : ℕ) → held_cycle R i < NOT_HELD → Any (λ r. (r.item ≡ i) × (r.cycle ≡ held_cycle R i)) R
+pub is_held : (R : List HeardRead) (i : ℕ) → held_cycle R i < NOT_HELD → Any (λ r. (r.item ≡ i) × (r.cycle ≡ held_cycle R i)) R
 is_held [] i l = absurd (omega arith)
 is_held (r ∷ R) i l = elim (cases_eq r.item i) as (λ _. Any (λ s. (s.item ≡ i) × (s.cycle ≡ held_cycle (r ∷ R) i)) (r ∷ R)) [
   | inl same ↦ (zero, r, omega arith, refl, (same, sym (cond-true (r.item == i) _ _ (eq-eqb r.item i same))))
@@ -35,18 +35,18 @@ is_held (r ∷ R) i l = elim (cases_eq r.item i) as (λ _. Any (λ s. (s.item �
 ]
 
 -- One read more changes the entry of its item, which wasn't held, and no other.
-pub held_more : (R : List Heard) (x : Heard) → All (λ r. r.item ≢ x.item) R → held_cycle (R ++ x ∷ []) x.item ≡ x.cycle
+pub held_more : (R : List HeardRead) (x : HeardRead) → All (λ r. r.item ≢ x.item) R → held_cycle (R ++ x ∷ []) x.item ≡ x.cycle
 held_more [] x free = cond-true (x.item == x.item) _ _ (eq-eqb x.item x.item refl)
 held_more (r ∷ R) x free =
     cond-false (r.item == x.item) _ _ (ne_eqb r.item x.item (All-head (λ r. r.item ≢ x.item) r R free))
     ∙ held_more R x (All-tail (λ r. r.item ≢ x.item) r R free)
 
-pub held_others : (R : List Heard) (x : Heard) (i : ℕ) → x.item ≢ i → held_cycle (R ++ x ∷ []) i ≡ held_cycle R i
+pub held_others : (R : List HeardRead) (x : HeardRead) (i : ℕ) → x.item ≢ i → held_cycle (R ++ x ∷ []) i ≡ held_cycle R i
 held_others [] x i other = cond-false (x.item == i) _ _ (ne_eqb x.item i other)
 held_others (r ∷ R) x i other = ap (cond (r.item == i) r.cycle) (held_others R x i other)
 
 -- The array with the new read's cycle put at its item is that of the reads with the new one.
-pub cycles_more : (n : ℕ) (R : List Heard) (x : Heard) (cycles new : List ℕ) → All (λ r. r.item ≢ x.item) R → x.item < n →
+pub cycles_more : (n : ℕ) (R : List HeardRead) (x : HeardRead) (cycles new : List ℕ) → All (λ r. r.item ≢ x.item) R → x.item < n →
     cycles ≡ cycles_of (record { n = n; reads = R }) → length new ≡ n → get_or new x.item 0 ≡ x.cycle → ((k : ℕ) → k ≢ x.item → get_or new k 0 ≡ get_or cycles k 0) →
     new ≡ cycles_of (record { n = n; reads = R ++ x ∷ [] })
 cycles_more n R x cycles new free within is long put kept = fill_by_all (held_cycle (R ++ x ∷ [])) new n 0 long (λ k l.
@@ -56,14 +56,14 @@ cycles_more n R x cycles new free within is long put kept = fill_by_all (held_cy
     ])
 
 -- And each read is still the one by which its item is held.
-pub once_more : (R : List Heard) (x : Heard) → All (λ r. r.item ≢ x.item) R → All (λ r. held_cycle R r.item ≡ r.cycle) R →
+pub once_more : (R : List HeardRead) (x : HeardRead) → All (λ r. r.item ≢ x.item) R → All (λ r. held_cycle R r.item ≡ r.cycle) R →
     All (λ r. held_cycle (R ++ x ∷ []) r.item ≡ r.cycle) (R ++ x ∷ [])
 once_more R x free once = All-append (λ r. held_cycle (R ++ x ∷ []) r.item ≡ r.cycle) R (x ∷ [])
     (λ k d l. held_others R x _ (λ e. free k d l (sym e)) ∙ once k d l)
     (All-cons (λ r. held_cycle (R ++ x ∷ []) r.item ≡ r.cycle) x [] (held_more R x free) (λ k d l. absurd (omega arith)))
 
 -- The same of the array and the places, as `hold` writes them.
-pub cycles_put : (n : ℕ) (R : List Heard) (x : Heard) (cycles : List ℕ) → All (λ r. r.item ≢ x.item) R → x.item < n → cycles ≡ cycles_of (record { n = n; reads = R }) →
+pub cycles_put : (n : ℕ) (R : List HeardRead) (x : HeardRead) (cycles : List ℕ) → All (λ r. r.item ≢ x.item) R → x.item < n → cycles ≡ cycles_of (record { n = n; reads = R }) →
     set cycles x.item x.cycle ≡ cycles_of (record { n = n; reads = R ++ x ∷ [] })
 cycles_put n R x cycles free within is =
     let long : length cycles ≡ n = ap length is ∙ cycles_len (record { n = n; reads = R }) in

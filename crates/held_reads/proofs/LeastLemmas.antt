@@ -5,7 +5,7 @@ use Rattle.std.specs.List.{filter}
 use Rattle.std.proofs.lemmas.Bool.{leb-true, leb-false, both_ways}
 use Rattle.std.proofs.lemmas.List.Elements.{All-cons}
 use Rattle.air_base.specs.declared.verdicts.Clash.{Clash}
-use Rattle.air_history.specs.Clashes.{lesser, least, Heard, read_at, heard_clash}
+use Rattle.air_history.specs.Clashes.{lesser, least, HeardRead, read_at, heard_clash}
 use Rattle.held_reads.specs.Searches.{clash_of}
 
 any_here : {X : Type 0} (P : X → Type 0) (x : X) (xs : List X) → P x → Any P (x ∷ xs)
@@ -15,11 +15,11 @@ any_later : {X : Type 0} (P : X → Type 0) (x : X) (xs : List X) → Any P xs �
 any_later P x xs a = (suc a.0, a.1, omega arith, a.3, a.4)
 
 -- The clash is that of a read that passes, and no read that passes has a lesser item number.
-pub record IsLeastOf (test : Heard → Bool) (R : List Heard) (c : Clash) : Type 0 where
+pub record IsLeastOf (test : HeardRead → Bool) (R : List HeardRead) (c : Clash) : Type 0 where
   pub held : Any (λ r. (test r ≡ true) × (c ≡ clash_of r)) R
   pub least : All (λ r. test r ≡ true → c.item ≤ r.item) R
 
-lesser_some : (r : Heard) (o : Option Clash) → lesser (read_at r) o ≡ None → ⊥
+lesser_some : (r : HeardRead) (o : Option Clash) → lesser (read_at r) o ≡ None → ⊥
 lesser_some r None e = cc
 lesser_some r (Some d) e = by (nat_le r.item d.item) e
   where
@@ -27,7 +27,7 @@ lesser_some r (Some d) e = by (nat_le r.item d.item) e
     by true e = cc
     by false e = cc
 
-pub none_passes : (test : Heard → Bool) (R : List Heard) → heard_clash test R ≡ None → All (λ r. test r ≡ false) R
+pub none_passes : (test : HeardRead → Bool) (R : List HeardRead) → heard_clash test R ≡ None → All (λ r. test r ≡ false) R
 unfolding least
 none_passes test [] e = λ k d l. absurd (omega arith)
 none_passes test (r ∷ R) e = by (test r) refl e (none_passes test R)
@@ -37,7 +37,7 @@ none_passes test (r ∷ R) e = by (test r) refl e (none_passes test R)
     by false h e rest = All-cons (λ r. test r ≡ false) r R h (rest e)
 
 -- One read more that passes, before those that gave o.
-more_passes : (test : Heard → Bool) (r : Heard) (R : List Heard) (o : Option Clash) (c : Clash) → test r ≡ true → heard_clash test R ≡ o →
+more_passes : (test : HeardRead → Bool) (r : HeardRead) (R : List HeardRead) (o : Option Clash) (c : Clash) → test r ≡ true → heard_clash test R ≡ o →
     ((d : Clash) → o ≡ Some d → IsLeastOf test R d) → lesser (read_at r) o ≡ Some c → IsLeastOf test (r ∷ R) c
 more_passes test r R None c h s rest e =
     let same : c ≡ clash_of r = cc in
@@ -67,7 +67,7 @@ more_passes test r R (Some d) c h s rest e = by (nat_le r.item d.item) refl e (r
           least = All-cons (λ r. test r ≡ true → c.item ≤ r.item) r R (λ t. omega arith) kept.least;
         }
 
-pub some_passes : (test : Heard → Bool) (R : List Heard) (c : Clash) → heard_clash test R ≡ Some c → IsLeastOf test R c
+pub some_passes : (test : HeardRead → Bool) (R : List HeardRead) (c : Clash) → heard_clash test R ≡ Some c → IsLeastOf test R c
 unfolding least
 some_passes test [] c e = absurd (let f : ◌≡◌ {A = Option Clash} None (Some c) = e in cc)
 some_passes test (r ∷ R) c e = by (test r) refl e (some_passes test R)

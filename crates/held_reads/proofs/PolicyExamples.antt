@@ -2,7 +2,7 @@
 use Rattle.std.proofs.Common.{◌≡◌, ◌≤◌, [], ◌∷◌, Option, Some, None, refl, inl, arith}
 use Rattle.air_base.specs.declared.verdicts.Clash.{Clash}
 use Rattle.air_base.specs.declared.verdicts.Policy.TheVariants.{FMatrix, Datacycle, RMatrix}
-use Rattle.air_history.specs.Clashes.{Heard, Takes, is_late}
+use Rattle.air_history.specs.Clashes.{HeardRead, Takes, is_late}
 use Rattle.air_history.specs.HeldReads.{HeldReads}
 use Rattle.air_history.specs.Reads.{ReadAt}
 use Rattle.held_reads.specs.HeardReads.{heard_read}
@@ -13,10 +13,10 @@ abbrev one_held : HeldReads
 one_held = record { n = 2; reads = heard_read 0 4 (0 ∷ 0 ∷ []) ∷ [] }
 
 -- Item 1 in a cycle before it, and in the same.
-abbrev before : Heard
+abbrev before : HeardRead
 before = heard_read 1 3 (0 ∷ 0 ∷ [])
 
-abbrev beside : Heard
+abbrev beside : HeardRead
 beside = heard_read 1 4 (0 ∷ 0 ∷ [])
 
 pub record Follow : Type 0 where

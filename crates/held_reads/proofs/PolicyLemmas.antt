@@ -10,7 +10,7 @@ use Rattle.air_base.specs.declared.verdicts.Policy.TheVariants.{FMatrix, Datacyc
 use Rattle.air_history.specs.declared.histories.Event.{Event}
 use Rattle.air_history.specs.Columns.{scheme_of}
 use Rattle.air_history.specs.Reads.{ReadAt, IsRead, last_cycle}
-use Rattle.air_history.specs.Clashes.{Heard, read_at, is_late, clash_by_history, clash_by_entries}
+use Rattle.air_history.specs.Clashes.{HeardRead, read_at, is_late, clash_by_history, clash_by_entries}
 use Rattle.air_history.specs.ClashLaws.{HaveAiredEntries, IsAllowed}
 use Rattle.air_history.specs.HeldReads.{HeldReads}
 use Rattle.air_history.proofs.AgeLemmas.{answered, new_cycle}
@@ -47,14 +47,14 @@ allowed_more RMatrix R x h late =
     all_pairs_push (λ r s. r.cycle ≤ s.cycle) R x h (λ k d l. let last = at_most_last R h k d l in omega arith)
 
 -- A read that may follow isn't late.
-pub not_late : (p : Policy) (held : HeldReads) (x : Heard) → MayFollow p held x → is_late p (map read_at held.reads) (read_at x) ≡ false
+pub not_late : (p : Policy) (held : HeldReads) (x : HeardRead) → MayFollow p held x → is_late p (map read_at held.reads) (read_at x) ≡ false
 unfolding is_late
 not_late FMatrix held x follows = refl
 not_late Datacycle held x follows = refl
 not_late RMatrix held x follows = let le : last_cycle (map read_at held.reads) ≤ x.cycle = follows in grind arith
 
 -- So the held reads with it are allowed.
-pub allowed_with : (p : Policy) (held : HeldReads) (x : Heard) → IsAllowed p (map read_at held.reads) → MayFollow p held x → IsAllowed p (map read_at held.reads ++ read_at x ∷ [])
+pub allowed_with : (p : Policy) (held : HeldReads) (x : HeardRead) → IsAllowed p (map read_at held.reads) → MayFollow p held x → IsAllowed p (map read_at held.reads ++ read_at x ∷ [])
 allowed_with p held x allowed follows = allowed_more p (map read_at held.reads) (read_at x) allowed (not_late p held x follows)
 
 -- ---- over a history
@@ -66,13 +66,13 @@ none_by_history Datacycle H R x are is late = stays_current H R x are is
 none_by_history RMatrix H R x are is late = takes H R x late
 
 -- A clash by the entries is the one by each history that aired them.
-pub told_by_history : (p : Policy) (held : HeldReads) (x : Heard) (answer : Option Clash) → IsAllowed p (map read_at held.reads) → MayFollow p held x → answer ≡ clash_by_entries p held.reads x →
+pub told_by_history : (p : Policy) (held : HeldReads) (x : HeardRead) (answer : Option Clash) → IsAllowed p (map read_at held.reads) → MayFollow p held x → answer ≡ clash_by_entries p held.reads x →
     (H : List Event) → HaveAiredEntries (scheme_of p) held.n H held.reads x → answer ≡ clash_by_history p H (map read_at held.reads) (read_at x)
 told_by_history p held x answer allowed follows by_entries H are =
     by_entries ∙ sym (clash_told (scheme_of p) held.n H held.reads x are (allowed_with p held x allowed follows))
 
 -- And it is None exactly where the policy goes on with the read.
-pub none_if_taken : (p : Policy) (held : HeldReads) (x : Heard) (answer : Option Clash) → IsAllowed p (map read_at held.reads) → MayFollow p held x → answer ≡ clash_by_entries p held.reads x →
+pub none_if_taken : (p : Policy) (held : HeldReads) (x : HeardRead) (answer : Option Clash) → IsAllowed p (map read_at held.reads) → MayFollow p held x → answer ≡ clash_by_entries p held.reads x →
     (H : List Event) → HaveAiredEntries (scheme_of p) held.n H held.reads x → IsNoneIfTaken p H (map read_at held.reads) (read_at x) answer
 none_if_taken p held x answer allowed follows by_entries H are =
     let told = answered (scheme_of p) held.n H held.reads x are in

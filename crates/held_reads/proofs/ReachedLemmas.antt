@@ -4,7 +4,7 @@ use Rattle.std.proofs.Common.{◌≡◌, ◌<◌, ◌≤◌, inl, inr, ℕ, Bool
 use Rattle.std.specs.Prelude.{MatchOption}
 use Rattle.std.proofs.lemmas.Bool.{cases_lt, leb-true, both_ways}
 use Rattle.air_base.specs.declared.verdicts.Clash.{Clash}
-use Rattle.air_history.specs.Clashes.{Heard, heard_clash}
+use Rattle.air_history.specs.Clashes.{HeardRead, heard_clash}
 use Rattle.air_history.specs.HeldReads.{HeldReads}
 use Rattle.held_reads.specs.Searches.{clash_of, is_reached}
 use Rattle.held_reads.specs.HeldCycles.{held_cycle, cycles_of, AreHeldOnce}
@@ -14,10 +14,10 @@ use Rattle.held_reads.proofs.LeastLemmas.{none_passes, some_passes, IsLeastOf}
 use Rattle.held_reads.proofs.ArrayLemmas.{cycle_at, is_held}
 
 -- The clash of the least of the reads that pass, and None where none passes.
-abbrev pub NamesLeastOf : (Heard → Bool) → List Heard → Option Clash → Type 0
+abbrev pub NamesLeastOf : (HeardRead → Bool) → List HeardRead → Option Clash → Type 0
 NamesLeastOf test R o = MatchOption o (All (λ r. test r ≡ false) R) (IsLeastOf test R)
 
-pub search_names : (test : Heard → Bool) (R : List Heard) → NamesLeastOf test R (heard_clash test R)
+pub search_names : (test : HeardRead → Bool) (R : List HeardRead) → NamesLeastOf test R (heard_clash test R)
 search_names test R = by (heard_clash test R) refl
   where
     by : (o : Option Clash) → heard_clash test R ≡ o → NamesLeastOf test R o
@@ -73,7 +73,7 @@ array_names held entries (Some c) within once sized below answer =
 -- ---- one clash alone is named
 
 -- Where a read's cycle follows from its item, two least clashes are the same.
-least_once : (f : ℕ → ℕ) (test : Heard → Bool) (R : List Heard) (c e : Clash) → All (λ r. f r.item ≡ r.cycle) R → IsLeastOf test R c → IsLeastOf test R e → c ≡ e
+least_once : (f : ℕ → ℕ) (test : HeardRead → Bool) (R : List HeardRead) (c e : Clash) → All (λ r. f r.item ≡ r.cycle) R → IsLeastOf test R c → IsLeastOf test R e → c ≡ e
 least_once f test R c e once n m =
     let a = n.held in
     let b = m.held in
@@ -86,12 +86,12 @@ least_once f test R c e once n m =
     let bc : f b.1.item ≡ b.1.cycle = subst (λ r. f r.item ≡ r.cycle) b.3 (once b.0 b.1 b.2) in
     same_clash c e same (ap (λ (k : Clash). k.cycle) a.4.1 ∙ sym ac ∙ ap f (sym ci ∙ same ∙ ei) ∙ bc ∙ sym (ap (λ (k : Clash). k.cycle) b.4.1))
 
-none_or_some : (test : Heard → Bool) (R : List Heard) (c : Clash) → All (λ r. test r ≡ false) R → IsLeastOf test R c → ⊥
+none_or_some : (test : HeardRead → Bool) (R : List HeardRead) (c : Clash) → All (λ r. test r ≡ false) R → IsLeastOf test R c → ⊥
 none_or_some test R c none n =
     let a = n.held in
     both_ways _ (subst (λ r. test r ≡ false) a.3 (none a.0 a.1 a.2)) a.4.0
 
-pub names_one : (f : ℕ → ℕ) (test : Heard → Bool) (R : List Heard) (o s : Option Clash) → All (λ r. f r.item ≡ r.cycle) R → NamesLeastOf test R o → NamesLeastOf test R s → o ≡ s
+pub names_one : (f : ℕ → ℕ) (test : HeardRead → Bool) (R : List HeardRead) (o s : Option Clash) → All (λ r. f r.item ≡ r.cycle) R → NamesLeastOf test R o → NamesLeastOf test R s → o ≡ s
 names_one f test R None None once n m = refl
 names_one f test R None (Some c) once n m = absurd (none_or_some test R c n m)
 names_one f test R (Some c) None once n m = absurd (none_or_some test R c m n)

@@ -7,7 +7,7 @@ use Rattle.std.proofs.lemmas.List.{map-append, take_more}
 use Rattle.std.proofs.lemmas.List.Elements.{filter-append}
 use Rattle.air_base.specs.declared.verdicts.Clash.{Clash}
 use Rattle.air_history.specs.Reads.{ReadAt}
-use Rattle.air_history.specs.Clashes.{lesser, least, Heard, read_at, heard_clash}
+use Rattle.air_history.specs.Clashes.{lesser, least, HeardRead, read_at, heard_clash}
 use Rattle.held_reads.specs.declared.reads.HeldRead.{HeldRead}
 use Rattle.held_reads.specs.HeardReads.{heard_of_held}
 use Rattle.held_reads.specs.Searches.{clash_of, lesser_of}
@@ -47,7 +47,7 @@ unfolding least
 least_push [] s = refl
 least_push (r ∷ S) s = ap (lesser r) (least_push S s) ∙ lesser_assoc r (least S) (clash_at s)
 
-pub clash_push : (test : Heard → Bool) (R : List Heard) (r : Heard) →
+pub clash_push : (test : HeardRead → Bool) (R : List HeardRead) (r : HeardRead) →
     heard_clash test (R ++ r ∷ []) ≡ cond (test r) (Some (lesser_of (heard_clash test R) (clash_of r))) (heard_clash test R)
 clash_push test R r = ap (λ S. least (map read_at S)) (filter-append test R (r ∷ [])) ∙ by (test r)
   where
@@ -60,7 +60,7 @@ taken_more : (places : List HeldRead) (i : ℕ) (p : HeldRead) → i < length pl
     map heard_of_held (take (i + 1) places) ≡ map heard_of_held (take i places) ++ heard_of_held p ∷ []
 taken_more places i p l e = ap (map heard_of_held) (take_more places i p l) ∙ map-append heard_of_held (take i places) (get_or places i p ∷ []) ∙ ap (λ q. map heard_of_held (take i places) ++ heard_of_held q ∷ []) (sym e)
 
-pub search_hit : (test : Heard → Bool) (best : Option Clash) (places : List HeldRead) (i : ℕ) (p : HeldRead) → i < length places → p ≡ get_or places i p →
+pub search_hit : (test : HeardRead → Bool) (best : Option Clash) (places : List HeldRead) (i : ℕ) (p : HeldRead) → i < length places → p ≡ get_or places i p →
     test (heard_of_held p) ≡ true → best ≡ heard_clash test (map heard_of_held (take i places)) →
     Some (lesser_of best (clash_of (heard_of_held p))) ≡ heard_clash test (map heard_of_held (take (i + 1) places))
 search_hit test best places i p l e hit so_far =
@@ -68,7 +68,7 @@ search_hit test best places i p l e hit so_far =
     ∙ sym (ap (heard_clash test) (taken_more places i p l e) ∙ clash_push test (map heard_of_held (take i places)) (heard_of_held p)
     ∙ ap (λ b. cond b (Some (lesser_of (heard_clash test (map heard_of_held (take i places))) (clash_of (heard_of_held p)))) (heard_clash test (map heard_of_held (take i places)))) hit)
 
-pub search_miss : (test : Heard → Bool) (best : Option Clash) (places : List HeldRead) (i : ℕ) (p : HeldRead) → i < length places → p ≡ get_or places i p →
+pub search_miss : (test : HeardRead → Bool) (best : Option Clash) (places : List HeldRead) (i : ℕ) (p : HeldRead) → i < length places → p ≡ get_or places i p →
     test (heard_of_held p) ≡ false → best ≡ heard_clash test (map heard_of_held (take i places)) →
     best ≡ heard_clash test (map heard_of_held (take (i + 1) places))
 search_miss test best places i p l e miss so_far =

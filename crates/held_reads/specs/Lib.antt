@@ -1,6 +1,6 @@
 pub mod HeardReads
 pub mod Policies
 pub mod Searches
-pub mod HeldView
+pub mod HeldFields
 pub mod HeldCycles
 pub mod Private

@@ -4,13 +4,13 @@ use Rattle.air_base.specs.declared.verdicts.Clash.{Clash}
 use Rattle.air_base.specs.declared.verdicts.Policy.{Policy}
 use Rattle.air_base.specs.declared.verdicts.Policy.TheVariants.{FMatrix, Datacycle, RMatrix}
 use Rattle.air_history.specs.declared.histories.Event.{Event}
-use Rattle.air_history.specs.Clashes.{Heard, IsCurrent, Takes}
+use Rattle.air_history.specs.Clashes.{HeardRead, IsCurrent, Takes}
 use Rattle.air_history.specs.Consistency.{IsConsistent}
 use Rattle.air_history.specs.HeldReads.{ComesInOrder, HeldReads}
 use Rattle.air_history.specs.Reads.{ReadAt}
 
 -- The policy allows the new read after the held ones: under R-Matrix it comes in the order of cycles, else in any order.
-abbrev pub MayFollow : Policy → HeldReads → Heard → Type 0
+abbrev pub MayFollow : Policy → HeldReads → HeardRead → Type 0
 MayFollow FMatrix held x = Unit {0}
 MayFollow Datacycle held x = Unit {0}
 MayFollow RMatrix held x = ComesInOrder held x

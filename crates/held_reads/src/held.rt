@@ -36,7 +36,7 @@ impl Model for HeldEntries {
 
     ghost Value = { HeldReads };
 
-    ghost use Rattle.held_reads.specs.HeldView.{held_reads};
+    ghost use Rattle.held_reads.specs.HeldFields.{held_reads};
     ghost use Rattle.held_reads.specs.HeldCycles.{KeepsCycles};
 
     ghost view = { held_reads };

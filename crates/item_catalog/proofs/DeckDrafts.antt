@@ -138,10 +138,10 @@ module _ (items : List ItemPart) (disks : List DiskPart) (updates : List (List U
   queries_same f g = cc
 
   asked_added : (front rest : List (List (List ℕ))) (old : List (List ℕ)) (asked : ℕ) (own : List (List ℕ))
-      → with_all (at_queries (front ++ old ∷ rest) asked) (map (e.Query (length front)) own) ≡ at_queries (front ++ (old ++ own) ∷ rest) (asked + length own)
+      → with_all (at_queries (front ++ old ∷ rest) asked) (map (e.DeclaredQuery (length front)) own) ≡ at_queries (front ++ (old ++ own) ∷ rest) (asked + length own)
   asked_added front rest old asked [] = queries_same (ap (λ l. front ++ l ∷ rest) (sym (append-nil old))) (omega arith)
   asked_added front rest old asked (q ∷ own) =
-      ap (λ ls. with_all (at_queries ls (asked + 1)) (map (e.Query (length front)) own)) (push_here front old rest q)
+      ap (λ ls. with_all (at_queries ls (asked + 1)) (map (e.DeclaredQuery (length front)) own)) (push_here front old rest q)
       ∙ asked_added front rest (old ++ q ∷ []) (asked + 1) own ∙ queries_same (ap (λ l. front ++ l ∷ rest) (append_assoc old (q ∷ []) own)) (omega arith)
 
   pub queries_added : (lists front pad : List (List (List ℕ))) (from asked : ℕ) → from ≡ length front
@@ -150,8 +150,8 @@ module _ (items : List ItemPart) (disks : List DiskPart) (updates : List (List U
   queries_added (own ∷ lists) front pad from asked at =
       let rest = replicate (length lists) [] ++ pad in
       let more = query_declarations (from + 1) lists in
-      with_both (at_queries (front ++ [] ∷ rest) asked) (map (e.Query from) own) more
-      ∙ ap (λ k. with_all (with_all (at_queries (front ++ [] ∷ rest) asked) (map (e.Query k) own)) more) at
+      with_both (at_queries (front ++ [] ∷ rest) asked) (map (e.DeclaredQuery from) own) more
+      ∙ ap (λ k. with_all (with_all (at_queries (front ++ [] ∷ rest) asked) (map (e.DeclaredQuery k) own)) more) at
       ∙ ap (λ d. with_all d more) (asked_added front rest [] asked own ∙ queries_same (sym (append_assoc front (own ∷ []) rest)) refl)
       ∙ queries_added lists (front ++ own ∷ []) pad (from + 1) (asked + length own) (omega (arith, length-append front (own ∷ [])))
       ∙ queries_same (append_assoc front (own ∷ []) (lists ++ pad)) (omega (arith, sum_by-cons (λ (l : List (List ℕ)). length l) own lists))
@@ -238,16 +238,16 @@ all_queries_added deck few =
     ap (λ ls. with_all (at_queries (item_parts deck) (disk_parts deck) us last count deck.readers ls 0) (query_declarations 0 deck.queries)) lists
     ∙ queries_added (item_parts deck) (disk_parts deck) us last count deck.readers deck.queries [] (more_readers deck) 0 0 refl
 
-pub rest_added : (deck : Deck) → with_all (after_queries deck) (e.Script deck.script ∷ map e.Set (all_set deck.settings)) ≡ whole_draft deck
+pub rest_added : (deck : Deck) → with_all (after_queries deck) (e.DeclaredScript deck.script ∷ map e.DeclaredSetting (all_set deck.settings)) ≡ whole_draft deck
 rest_added deck = refl
 
 -- The sections behind each other.
 abbrev pub sections : Deck → List Declaration
-sections deck = map disk_declaration deck.disks ++ (update_declarations 0 deck.updates ++ (map reader_declaration deck.readers ++ (query_declarations 0 deck.queries ++ (e.Script deck.script ∷ map e.Set (all_set deck.settings)))))
+sections deck = map disk_declaration deck.disks ++ (update_declarations 0 deck.updates ++ (map reader_declaration deck.readers ++ (query_declarations 0 deck.queries ++ (e.DeclaredScript deck.script ∷ map e.DeclaredSetting (all_set deck.settings)))))
 
 pub deck_drafted : (deck : Deck) → length deck.updates ≤ MOST_UPDATERS → length deck.queries ≤ MOST_READERS → draft_of (deck_declarations deck) ≡ whole_draft deck
 deck_drafted deck few asked =
-    let last = e.Script deck.script ∷ map e.Set (all_set deck.settings) in
+    let last = e.DeclaredScript deck.script ∷ map e.DeclaredSetting (all_set deck.settings) in
     let q = query_declarations 0 deck.queries ++ last in
     let r = map reader_declaration deck.readers ++ q in
     let u = update_declarations 0 deck.updates ++ r in

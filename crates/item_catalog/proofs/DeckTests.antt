@@ -85,7 +85,7 @@ abbrev Short : List ℕ → Type 0
 Short items = length items ≤ MOST_ASKED
 
 asked_pass : (n m reader : ℕ) → n ≤ MOST_ITEMS → m ≤ MOST_READERS → reader < m → (own : List (List ℕ)) (d : DraftValue) → length d.items ≡ n → length d.readers ≡ m → d.query_count + length own ≤ MOST_QUERIES
-    → All (IsQuery n) own → All Short own → Passes d (map (e.Query reader) own)
+    → All (IsQuery n) own → All Short own → Passes d (map (e.DeclaredQuery reader) own)
 asked_pass n m reader few most low [] d at by room all short = tt
 asked_pass n m reader few most low (items ∷ own) d at by room all short =
     let is = All-head (IsQuery n) items own all in let s = All-head Short items own short in
@@ -96,14 +96,14 @@ asked_pass n m reader few most low (items ∷ own) d at by room all short =
           (neither (nat_le m reader) (reaches n items) (not_reached m reader low) (all_reached n items is.within))
           is.distinct
           (neither (outside 1 MOST_ASKED (length items)) (nat_le MOST_QUERIES d.query_count) (not_outside 1 MOST_ASKED (length items) (omega arith) s) (not_reached MOST_QUERIES d.query_count (omega arith))),
-      asked_pass n m reader few most low own (with_declaration d (e.Query reader items)) at by (omega arith) (All-tail (IsQuery n) items own all) (All-tail Short items own short),
+      asked_pass n m reader few most low own (with_declaration d (e.DeclaredQuery reader items)) at by (omega arith) (All-tail (IsQuery n) items own all) (All-tail Short items own short),
     )
 
 asked_counts : (reader : ℕ) (own : List (List ℕ)) (d : DraftValue)
-    → (length (with_all d (map (e.Query reader) own)).items ≡ length d.items) × (length (with_all d (map (e.Query reader) own)).readers ≡ length d.readers)
-    × ((with_all d (map (e.Query reader) own)).query_count ≡ d.query_count + length own)
+    → (length (with_all d (map (e.DeclaredQuery reader) own)).items ≡ length d.items) × (length (with_all d (map (e.DeclaredQuery reader) own)).readers ≡ length d.readers)
+    × ((with_all d (map (e.DeclaredQuery reader) own)).query_count ≡ d.query_count + length own)
 asked_counts reader [] d = (refl, refl, omega arith)
-asked_counts reader (q ∷ own) d = let more = asked_counts reader own (with_declaration d (e.Query reader q)) in (more.0, more.1, more.2 ∙ omega arith)
+asked_counts reader (q ∷ own) d = let more = asked_counts reader own (with_declaration d (e.DeclaredQuery reader q)) in (more.0, more.1, more.2 ∙ omega arith)
 
 queries_pass : (n m : ℕ) → n ≤ MOST_ITEMS → m ≤ MOST_READERS → (lists : List (List (List ℕ))) (d : DraftValue) (from : ℕ) → length d.items ≡ n → length d.readers ≡ m → from + length lists ≤ m
     → d.query_count + sum_by length lists ≤ MOST_QUERIES → All (All (IsQuery n)) lists → All (All Short) lists → Passes d (query_declarations from lists)
@@ -111,9 +111,9 @@ queries_pass n m few most [] d from at by low room all short = tt
 queries_pass n m few most (own ∷ lists) d from at by low room all short =
     let counts = asked_counts from own d in
     let sum = sum_by-cons (λ (l : List (List ℕ)). length l) own lists in
-    passes_both d (map (e.Query from) own) (query_declarations (from + 1) lists)
+    passes_both d (map (e.DeclaredQuery from) own) (query_declarations (from + 1) lists)
     (asked_pass n m from few most (omega arith) own d at by (omega arith) (All-head (All (IsQuery n)) own lists all) (All-head (All Short) own lists short))
-    (queries_pass n m few most lists (with_all d (map (e.Query from) own)) (from + 1) (counts.0 ∙ at) (counts.1 ∙ by) (omega arith) (omega (arith, counts.2))
+    (queries_pass n m few most lists (with_all d (map (e.DeclaredQuery from) own)) (from + 1) (counts.0 ∙ at) (counts.1 ∙ by) (omega arith) (omega (arith, counts.2))
     (All-tail (All (IsQuery n)) own lists all) (All-tail (All Short) own lists short))
 
 -- ---- the settings
@@ -122,7 +122,7 @@ version_range : (v : ℕ) → (v ≡ 1) ⊎ (v ≡ 2) → (1 ≤ v) × (v ≤ 2)
 version_range v (inl one) = (omega arith, omega arith)
 version_range v (inr two) = (omega arith, omega arith)
 
-set_passes : (deck : Deck) → (deck.settings.version ≡ 1) ⊎ (deck.settings.version ≡ 2) → SettingsWithin deck.settings → Passes (with_declaration (after_queries deck) (e.Script deck.script)) (map e.Set (all_set deck.settings))
+set_passes : (deck : Deck) → (deck.settings.version ≡ 1) ⊎ (deck.settings.version ≡ 2) → SettingsWithin deck.settings → Passes (with_declaration (after_queries deck) (e.DeclaredScript deck.script)) (map e.DeclaredSetting (all_set deck.settings))
 set_passes deck known w =
     let seed = w.seed in
     (tt, refl, (version_range deck.settings.version known, refl, ((omega arith, w.cycles), refl, ((omega arith, omega arith), refl, ((omega arith, w.loss), refl, ((omega arith, w.again), refl, ((omega arith, w.late), refl, ((omega arith, w.monitors), refl, ((w.some_hears, w.hears), refl, tt)))))))))
@@ -172,7 +172,7 @@ module _ (deck : Deck) (made : IsDeck deck) (within : WithinLimits deck) where
       let n = length deck.items in let few = few_items in
       let disks = within.disks in let updaters = within.updaters in let updates = within.updates in let readers = within.readers in let queries = within.queries in let same = made.readers in
       let known = committed deck.updates deck.script updaters made.script in
-      let last = e.Script deck.script ∷ map e.Set (all_set deck.settings) in
+      let last = e.DeclaredScript deck.script ∷ map e.DeclaredSetting (all_set deck.settings) in
       let q = query_declarations 0 deck.queries ++ last in
       let r = map reader_declaration deck.readers ++ q in
       let u = update_declarations 0 deck.updates ++ r in

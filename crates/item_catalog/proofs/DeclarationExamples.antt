@@ -40,7 +40,7 @@ pub record Fields : Type 0 where
   spelled : or_fault {A = ℕ} fault.Form (Some 3) ≡ Ok 3
   not_spelled : or_fault {A = ℕ} fault.Form None ≡ Err fault.Form
   -- The tag is the first field.
-  tagged : by_tag tag_of declaration_by (codes "disk" ∷ codes "2" ∷ codes "1" ∷ []) ≡ Ok (e.Disk 2 (Some 1))
+  tagged : by_tag tag_of declaration_by (codes "disk" ∷ codes "2" ∷ codes "1" ∷ []) ≡ Ok (e.DeclaredDisk 2 (Some 1))
   untagged : by_tag tag_of declaration_by [] ≡ Err fault.Tag
   -- writes
   an_amount : constant (Some 3) (Some 4) ≡ Some (record { item = 3; base = None; minus = false; amount = 4 })
@@ -84,23 +84,23 @@ fields = record {
 
 -- An item's declaration, and a row that spells it.
 abbrev an_item : Declaration
-an_item = e.Item 0 10 1
+an_item = e.DeclaredItem 0 10 1
 
 pub record DeclarationsRead : Type 0 where
   item : item_by (Some (codes "0", codes "10", codes "1")) ≡ Ok an_item
   item_form : item_by (Some (codes "0", codes "10", codes "x")) ≡ Err fault.Form
   item_fields : item_by None ≡ Err fault.Fields
-  disk : disk_by (Some (codes "2", codes "-")) ≡ Ok (e.Disk 2 None)
+  disk : disk_by (Some (codes "2", codes "-")) ≡ Ok (e.DeclaredDisk 2 None)
   disk_form : disk_by (Some (codes "-", codes "2")) ≡ Err fault.Form
-  update : update_by (Some (codes "1", codes "0 2", codes "3=4")) ≡ Ok (e.Update 1 (0 ∷ 2 ∷ []) (record { item = 3; base = None; minus = false; amount = 4 } ∷ []))
+  update : update_by (Some (codes "1", codes "0 2", codes "3=4")) ≡ Ok (e.DeclaredUpdate 1 (0 ∷ 2 ∷ []) (record { item = 3; base = None; minus = false; amount = 4 } ∷ []))
   update_form : update_by (Some (codes "1", codes "0  2", codes "3=4")) ≡ Err fault.Form
-  reader : reader_by (Some (codes "1", codes "2", codes "3")) ≡ Ok (e.Reader 1 2 3)
+  reader : reader_by (Some (codes "1", codes "2", codes "3")) ≡ Ok (e.DeclaredReader 1 2 3)
   reader_fields : reader_by None ≡ Err fault.Fields
-  query : query_by (Some (codes "0", codes "2 1")) ≡ Ok (e.Query 0 (2 ∷ 1 ∷ []))
+  query : query_by (Some (codes "0", codes "2 1")) ≡ Ok (e.DeclaredQuery 0 (2 ∷ 1 ∷ []))
   query_form : query_by (Some (codes "s", codes "2 1")) ≡ Err fault.Form
-  script : script_by (Some (codes "s 0 s")) ≡ Ok (e.Script (None ∷ Some 0 ∷ None ∷ []))
+  script : script_by (Some (codes "s 0 s")) ≡ Ok (e.DeclaredScript (None ∷ Some 0 ∷ None ∷ []))
   script_fields : script_by None ≡ Err fault.Fields
-  set : set_by (Some (codes "loss", codes "100")) ≡ Ok (e.Set (setting.Number Loss 100))
+  set : set_by (Some (codes "loss", codes "100")) ≡ Ok (e.DeclaredSetting (setting.Number Loss 100))
   set_too_great : set_by (Some (codes "loss", codes "101")) ≡ Err fault.Setting
   set_fields : set_by None ≡ Err fault.Fields
   its_tag : tag_of (codes "script") ≡ Some t.Script

@@ -12,16 +12,16 @@ use Rattle.air_history.specs.UpdateRules.{base_holds, base_is_read, has_repeat, 
 use Rattle.item_catalog.specs.Declarations.{query_by, script_by, update_by}
 use Rattle.item_catalog.specs.Declarations as e
 use Rattle.item_catalog.specs.Writes.{constant, spelled_value_write, spelled_write, write_by, write_from, write_on_base}
-use Rattle.air_base.specs.Pieces.{cut_at, two_of}
+use Rattle.air_base.specs.Parts.{parts_at, two_of}
 use Rattle.item_catalog.specs.Fields.{spelled_event}
 use Rattle.item_catalog.specs.declared.faults.FaultKind.{FaultKind}
 use Rattle.item_catalog.specs.declared.faults.FaultKind.TheVariants as fault
 use Rattle.item_catalog.specs.RecordKinds.{first_of}
 use Rattle.item_catalog.specs.Faults.{script_passes, update_tests}
 use Rattle.item_catalog.specs.ListTests.{is_unread, option_any, reaches, write_reaches}
-use Rattle.item_catalog.specs.Private.ScriptView.{EventsRead}
+use Rattle.item_catalog.specs.Private.ScriptFields.{EventsRead}
 use Rattle.item_catalog.specs.KeptLists.{ReadIs}
-use Rattle.air_base.proofs.NumberFronts.{spelled_fits}
+use Rattle.air_base.proofs.LeadingNumberLemmas.{spelled_fits}
 
 -- What holds of each value that a part may spell holds of all values of a list.
 pub all_spelled : {A : Type 0} (value : List ℕ → Option A) (test : A → Bool) → ((text : List ℕ) (x : A) → value text ≡ Some x → test x ≡ true)
@@ -47,11 +47,11 @@ read_is_some read (Some x) Holds h e = (x, refl, h.1)
 
 -- An update whose fields are read, and a query.
 pub update_spelled : (fields : Option (List ℕ × List ℕ × List ℕ)) (b r w : List ℕ) (by : ℕ) (rs : List ℕ) (ws : List Write) → ◌≡◌ {A = Option (List ℕ × List ℕ × List ℕ)} (Some (b, r, w)) fields
-    → number_of b ≡ Some by → list_of number_of r ≡ Some rs → list_of spelled_write w ≡ Some ws → update_by fields ≡ Ok (e.Update by rs ws)
+    → number_of b ≡ Some by → list_of number_of r ≡ Some rs → list_of spelled_write w ≡ Some ws → update_by fields ≡ Ok (e.DeclaredUpdate by rs ws)
 update_spelled fields b r w by rs ws f one two three = rw (← f, one, two, three) refl
 
 pub query_spelled : (fields : Option (List ℕ × List ℕ)) (r a : List ℕ) (reader : ℕ) (asked : List ℕ) → ◌≡◌ {A = Option (List ℕ × List ℕ)} (Some (r, a)) fields
-    → number_of r ≡ Some reader → list_of number_of a ≡ Some asked → query_by fields ≡ Ok (e.Query reader asked)
+    → number_of r ≡ Some reader → list_of number_of a ≡ Some asked → query_by fields ≡ Ok (e.DeclaredQuery reader asked)
 query_spelled fields r a reader asked f one two = rw (← f, one, two) refl
 
 -- Each write that is spelled has a minus with a base alone.
@@ -72,7 +72,7 @@ constant_signed (Some i) (Some a) w h = let same : record { item = i; base = Non
 
 pub write_signed : (text : List ℕ) (w : Write) → spelled_write text ≡ Some w → sign_holds w.minus w.base ≡ true
 unfolding spelled_write spelled_value_write
-write_signed text w h = by (two_of (cut_at 61 text)) h
+write_signed text w h = by (two_of (parts_at 61 text)) h
   where
     value : (item : Option ℕ) (v : List ℕ) (a b : Option (List ℕ × List ℕ)) → write_by item a b v ≡ Some w → sign_holds w.minus w.base ≡ true
     value item v (Some f) b h = on_base_signed false item (number_of f.0) (number_of f.1) w h
@@ -81,7 +81,7 @@ write_signed text w h = by (two_of (cut_at 61 text)) h
 
     by : (sides : Option (List ℕ × List ℕ)) → write_from sides ≡ Some w → sign_holds w.minus w.base ≡ true
     by None h = cc h
-    by (Some s) h = value (number_of s.0) s.1 (two_of (cut_at 43 s.1)) (two_of (cut_at 45 s.1)) h
+    by (Some s) h = value (number_of s.0) s.1 (two_of (parts_at 43 s.1)) (two_of (parts_at 45 s.1)) h
 
 -- Its amount fits 64 bits.
 on_base_fits : (minus : Bool) (item base : Option ℕ) (text : List ℕ) (w : Write) → write_on_base minus item base (number_of text) ≡ Some w → w.amount < 2 ^ 64
@@ -107,7 +107,7 @@ constant_fits item text w h = by item (number_of text) refl h
 
 pub write_fits : (text : List ℕ) (w : Write) → spelled_write text ≡ Some w → w.amount < 2 ^ 64
 unfolding spelled_write spelled_value_write
-write_fits text w h = by (two_of (cut_at 61 text)) h
+write_fits text w h = by (two_of (parts_at 61 text)) h
   where
     value : (item : Option ℕ) (v : List ℕ) (a b : Option (List ℕ × List ℕ)) → write_by item a b v ≡ Some w → w.amount < 2 ^ 64
     value item v (Some f) b h = on_base_fits false item (number_of f.0) f.1 w h
@@ -116,7 +116,7 @@ write_fits text w h = by (two_of (cut_at 61 text)) h
 
     by : (sides : Option (List ℕ × List ℕ)) → write_from sides ≡ Some w → w.amount < 2 ^ 64
     by None h = cc h
-    by (Some s) h = value (number_of s.0) s.1 (two_of (cut_at 43 s.1)) (two_of (cut_at 45 s.1)) h
+    by (Some s) h = value (number_of s.0) s.1 (two_of (parts_at 43 s.1)) (two_of (parts_at 45 s.1)) h
 
 abbrev pub is_signed : Write → Bool
 is_signed w = sign_holds w.minus w.base
@@ -216,5 +216,5 @@ pub events_are : (passes : Bool) (list : Option (List (Option ℕ))) (old new : 
 events_are passes None old new h = cc h
 events_are passes (Some events) old new h = (events, refl, let first = h.0 in cc first, h.1)
 
-pub script_spelled : (fields : Option (List ℕ)) (f : List ℕ) (events : List (Option ℕ)) → Some f ≡ fields → list_of spelled_event f ≡ Some events → script_by fields ≡ Ok (e.Script events)
+pub script_spelled : (fields : Option (List ℕ)) (f : List ℕ) (events : List (Option ℕ)) → Some f ≡ fields → list_of spelled_event f ≡ Some events → script_by fields ≡ Ok (e.DeclaredScript events)
 script_spelled fields f events same one = rw (← same, one) refl

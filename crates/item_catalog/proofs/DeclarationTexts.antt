@@ -16,11 +16,11 @@ use Rattle.air_base.specs.declared.verdicts.Policy.{Policy}
 use Rattle.air_base.specs.declared.verdicts.Policy.TheVariants as policy
 use Rattle.air_base.proofs.ListLaws.{IsPart, list_text_spells, parts_of-list_text}
 use Rattle.air_base.proofs.NumberLemmas.{number_digits, text_spells}
-use Rattle.air_base.proofs.NumberFronts.{all_such}
+use Rattle.air_base.proofs.LeadingNumberLemmas.{all_such}
 use Rattle.air_base.proofs.PartLemmas.{all_some-Some}
 use Rattle.air_history.specs.declared.updates.Write.{Write}
 use Rattle.item_catalog.specs.Writes.{spelled_value_write, spelled_write}
-use Rattle.item_catalog.proofs.WriteFronts.{value_minus, value_number, value_plus, write_equals}
+use Rattle.item_catalog.proofs.SplitWriteLemmas.{value_minus, value_number, value_plus, write_equals}
 use Rattle.item_catalog.specs.RecordFields.{◌is◌}
 use Rattle.item_catalog.specs.Declarations.{Declaration, spelled_declaration}
 use Rattle.item_catalog.specs.Declarations as e
@@ -52,13 +52,13 @@ pub record WriteFits (w : Write) : Type 0 where
   pub amount : w.amount < 2 ^ 64
 
 abbrev pub Fits : Declaration → Type 0
-Fits (e.Item id value rate) = (id < 2 ^ 64) × (value < 2 ^ 64) × (rate < 2 ^ 64)
-Fits (e.Disk size freq) = (size < 2 ^ 64) × SmallNumber freq
-Fits (e.Update by reads writes) = (by < 2 ^ 64) × All (λ r. r < 2 ^ 64) reads × All WriteFits writes
-Fits (e.Reader room age tries) = (room < 2 ^ 64) × (age < 2 ^ 64) × (tries < 2 ^ 64)
-Fits (e.Query reader items) = (reader < 2 ^ 64) × All (λ i. i < 2 ^ 64) items
-Fits (e.Script events) = All SmallNumber events
-Fits (e.Set s) = InRange s
+Fits (e.DeclaredItem id value rate) = (id < 2 ^ 64) × (value < 2 ^ 64) × (rate < 2 ^ 64)
+Fits (e.DeclaredDisk size freq) = (size < 2 ^ 64) × SmallNumber freq
+Fits (e.DeclaredUpdate by reads writes) = (by < 2 ^ 64) × All (λ r. r < 2 ^ 64) reads × All WriteFits writes
+Fits (e.DeclaredReader room age tries) = (room < 2 ^ 64) × (age < 2 ^ 64) × (tries < 2 ^ 64)
+Fits (e.DeclaredQuery reader items) = (reader < 2 ^ 64) × All (λ i. i < 2 ^ 64) items
+Fits (e.DeclaredScript events) = All SmallNumber events
+Fits (e.DeclaredSetting s) = InRange s
 
 -- ---- numbers
 
@@ -180,7 +180,7 @@ inside : (least most k : ℕ) → least ≤ k → k ≤ most → outside least m
 inside least most k low high =
     let a : nat_lt k least ≡ false = grind (arith, nat_tests) in let b : nat_lt most k ≡ false = grind (arith, nat_tests) in rw (a, b) refl
 
-number_set : (name : Name) (k : ℕ) → InRange (setting.Number name k) → spelled_declaration (set_row (setting.Number name k)) ≡ Ok (e.Set (setting.Number name k))
+number_set : (name : Name) (k : ℕ) → InRange (setting.Number name k) → spelled_declaration (set_row (setting.Number name k)) ≡ Ok (e.DeclaredSetting (setting.Number name k))
 number_set n.Delta k range = rw (text_spells k (small_range n.Delta k range.1), inside (range_of n.Delta).0 (range_of n.Delta).1 k range.0 range.1) refl
 number_set n.Version k range = rw (text_spells k (small_range n.Version k range.1), inside (range_of n.Version).0 (range_of n.Version).1 k range.0 range.1) refl
 number_set n.Cycles k range = rw (text_spells k (small_range n.Cycles k range.1), inside (range_of n.Cycles).0 (range_of n.Cycles).1 k range.0 range.1) refl
@@ -191,22 +191,22 @@ number_set n.Late k range = rw (text_spells k (small_range n.Late k range.1), in
 number_set n.Monitors k range = rw (text_spells k (small_range n.Monitors k range.1), inside (range_of n.Monitors).0 (range_of n.Monitors).1 k range.0 range.1) refl
 number_set n.Hears k range = rw (text_spells k (small_range n.Hears k range.1), inside (range_of n.Hears).0 (range_of n.Hears).1 k range.0 range.1) refl
 
-policy_set : (p : Policy) → spelled_declaration (set_row (setting.Policy p)) ≡ Ok (e.Set (setting.Policy p))
+policy_set : (p : Policy) → spelled_declaration (set_row (setting.Policy p)) ≡ Ok (e.DeclaredSetting (setting.Policy p))
 policy_set policy.FMatrix = refl
 policy_set policy.Datacycle = refl
 policy_set policy.RMatrix = refl
 
-set_spelled : (s : Setting) → InRange s → spelled_declaration (set_row s) ≡ Ok (e.Set s)
+set_spelled : (s : Setting) → InRange s → spelled_declaration (set_row s) ≡ Ok (e.DeclaredSetting s)
 set_spelled (setting.Policy p) range = policy_set p
 set_spelled (setting.Number name k) range = number_set name k range
 
 -- ---- declarations
 
 pub declaration_spelled : (x : Declaration) → Fits x → spelled_declaration (declaration_row x) ≡ Ok x
-declaration_spelled (e.Item id value rate) fits = rw (text_spells id fits.0, text_spells value fits.1, text_spells rate fits.2) refl
-declaration_spelled (e.Disk size freq) fits = rw (text_spells size fits.0, freq_spelled freq fits.1) refl
-declaration_spelled (e.Update by reads writes) fits = rw (text_spells by fits.0, list_text_spells reads fits.1, writes_spelled writes fits.2) refl
-declaration_spelled (e.Reader room age tries) fits = rw (text_spells room fits.0, text_spells age fits.1, text_spells tries fits.2) refl
-declaration_spelled (e.Query reader items) fits = rw (text_spells reader fits.0, list_text_spells items fits.1) refl
-declaration_spelled (e.Script events) fits = rw (events_spelled events fits) refl
-declaration_spelled (e.Set s) fits = set_spelled s fits
+declaration_spelled (e.DeclaredItem id value rate) fits = rw (text_spells id fits.0, text_spells value fits.1, text_spells rate fits.2) refl
+declaration_spelled (e.DeclaredDisk size freq) fits = rw (text_spells size fits.0, freq_spelled freq fits.1) refl
+declaration_spelled (e.DeclaredUpdate by reads writes) fits = rw (text_spells by fits.0, list_text_spells reads fits.1, writes_spelled writes fits.2) refl
+declaration_spelled (e.DeclaredReader room age tries) fits = rw (text_spells room fits.0, text_spells age fits.1, text_spells tries fits.2) refl
+declaration_spelled (e.DeclaredQuery reader items) fits = rw (text_spells reader fits.0, list_text_spells items fits.1) refl
+declaration_spelled (e.DeclaredScript events) fits = rw (events_spelled events fits) refl
+declaration_spelled (e.DeclaredSetting s) fits = set_spelled s fits

@@ -91,44 +91,44 @@ pub eq_other : (k n : ℕ) → k ≢ n → (n == k) ≡ false
 eq_other k n h = grind arith
 
 pub draft_more : (es : List Declaration) (x : Declaration) → draft_of (es ++ x ∷ []) ≡ with_declaration (draft_of es) x
-draft_more es (e.Item id value rate) = let x : Declaration = e.Item id value rate in
+draft_more es (e.DeclaredItem id value rate) = let x : Declaration = e.DeclaredItem id value rate in
     same_parts (one_more its_item es x _ refl) (none_more its_disk es x refl) (updates_kept es x (λ by. refl)) (updaters_kept es x refl) (count_kept is_update es x refl)
     (none_more its_reader es x refl) (queries_kept es x (λ r. refl)) (count_kept is_query es x refl) (script_kept es x refl) (none_more its_setting es x refl)
-draft_more es (e.Disk size freq) = let x : Declaration = e.Disk size freq in
+draft_more es (e.DeclaredDisk size freq) = let x : Declaration = e.DeclaredDisk size freq in
     same_parts (none_more its_item es x refl) (one_more its_disk es x _ refl) (updates_kept es x (λ by. refl)) (updaters_kept es x refl) (count_kept is_update es x refl)
     (none_more its_reader es x refl) (queries_kept es x (λ r. refl)) (count_kept is_query es x refl) (script_kept es x refl) (none_more its_setting es x refl)
-draft_more es (e.Update by reads writes) = let x : Declaration = e.Update by reads writes in
+draft_more es (e.DeclaredUpdate by reads writes) = let x : Declaration = e.DeclaredUpdate by reads writes in
     same_parts (none_more its_item es x refl) (none_more its_disk es x refl)
     (pushed MOST_UPDATERS by (updates_in es) (updates_in (es ++ x ∷ [])) (record { reads = reads; writes = writes })
     (λ k differs. none_more (its_update k) es x (rw (eq_other k by differs) refl)) (one_more (its_update by) es x _ (rw (eq_self by) refl)))
     (updaters_more es x) (count_more is_update es x)
     (none_more its_reader es x refl) (queries_kept es x (λ r. refl)) (count_kept is_query es x refl) (script_kept es x refl) (none_more its_setting es x refl)
-draft_more es (e.Reader room age tries) = let x : Declaration = e.Reader room age tries in
+draft_more es (e.DeclaredReader room age tries) = let x : Declaration = e.DeclaredReader room age tries in
     same_parts (none_more its_item es x refl) (none_more its_disk es x refl) (updates_kept es x (λ by. refl)) (updaters_kept es x refl) (count_kept is_update es x refl)
     (one_more its_reader es x _ refl) (queries_kept es x (λ r. refl)) (count_kept is_query es x refl) (script_kept es x refl) (none_more its_setting es x refl)
-draft_more es (e.Query reader items) = let x : Declaration = e.Query reader items in
+draft_more es (e.DeclaredQuery reader items) = let x : Declaration = e.DeclaredQuery reader items in
     same_parts (none_more its_item es x refl) (none_more its_disk es x refl) (updates_kept es x (λ by. refl)) (updaters_kept es x refl) (count_kept is_update es x refl)
     (none_more its_reader es x refl)
     (pushed MOST_READERS reader (queries_in es) (queries_in (es ++ x ∷ [])) items
     (λ k differs. none_more (its_query k) es x (rw (eq_other k reader differs) refl)) (one_more (its_query reader) es x _ (rw (eq_self reader) refl)))
     (count_more is_query es x) (script_kept es x refl) (none_more its_setting es x refl)
-draft_more es (e.Script events) = let x : Declaration = e.Script events in
+draft_more es (e.DeclaredScript events) = let x : Declaration = e.DeclaredScript events in
     same_parts (none_more its_item es x refl) (none_more its_disk es x refl) (updates_kept es x (λ by. refl)) (updaters_kept es x refl) (count_kept is_update es x refl)
     (none_more its_reader es x refl) (queries_kept es x (λ r. refl)) (count_kept is_query es x refl)
     (flat_map-append its_events es (x ∷ []) ∙ ap (λ l. script_in es ++ l) (append-nil events)) (none_more its_setting es x refl)
-draft_more es (e.Set setting) = let x : Declaration = e.Set setting in
+draft_more es (e.DeclaredSetting setting) = let x : Declaration = e.DeclaredSetting setting in
     same_parts (none_more its_item es x refl) (none_more its_disk es x refl) (updates_kept es x (λ by. refl)) (updaters_kept es x refl) (count_kept is_update es x refl)
     (none_more its_reader es x refl) (queries_kept es x (λ r. refl)) (count_kept is_query es x refl) (script_kept es x refl) (one_more its_setting es x _ refl)
 
 -- The tests of a declaration ask the same of the parts as of the declarations.
 pub tests_same : (es : List Declaration) (x : Declaration) → draft_tests (draft_of es) x ≡ tests_of es x
-tests_same es (e.Item id value rate) = refl
-tests_same es (e.Disk size freq) = refl
-tests_same es (e.Update by reads writes) = refl
-tests_same es (e.Reader room age tries) = refl
-tests_same es (e.Query reader items) = refl
-tests_same es (e.Script events) =
+tests_same es (e.DeclaredItem id value rate) = refl
+tests_same es (e.DeclaredDisk size freq) = refl
+tests_same es (e.DeclaredUpdate by reads writes) = refl
+tests_same es (e.DeclaredReader room age tries) = refl
+tests_same es (e.DeclaredQuery reader items) = refl
+tests_same es (e.DeclaredScript events) =
     ap (λ b. (fault.Limit, script_passes (script_in es) events) ∷ (fault.Overdrawn, b) ∷ [])
     (some_same MOST_UPDATERS (λ by. nat_lt (length (get_or (for_each MOST_UPDATERS (updates_in es)) by [])) (count_parts by (script_in es ++ events))) (λ by. nat_lt (length (updates_in es by)) (count_parts by (script_in es ++ events)))
     (λ k below. ap (λ us. nat_lt (length us) (count_parts k (script_in es ++ events))) (get_or-map-range_with_len (updates_in es) 0 MOST_UPDATERS k k [] below (omega arith))))
-tests_same es (e.Set setting) = refl
+tests_same es (e.DeclaredSetting setting) = refl

@@ -74,14 +74,14 @@ stand done (x ∷ xs) s p =
 -- ---- their text
 
 plain_declaration : (x : Declaration) → Plain (declaration_row x)
-plain_declaration (e.Item id value rate) = λ rest. refl
-plain_declaration (e.Disk size freq) = λ rest. refl
-plain_declaration (e.Update by reads writes) = λ rest. refl
-plain_declaration (e.Reader room age tries) = λ rest. refl
-plain_declaration (e.Query reader items) = λ rest. refl
-plain_declaration (e.Script events) = λ rest. refl
-plain_declaration (e.Set (setting.Policy policy)) = λ rest. refl
-plain_declaration (e.Set (setting.Number name value)) = λ rest. refl
+plain_declaration (e.DeclaredItem id value rate) = λ rest. refl
+plain_declaration (e.DeclaredDisk size freq) = λ rest. refl
+plain_declaration (e.DeclaredUpdate by reads writes) = λ rest. refl
+plain_declaration (e.DeclaredReader room age tries) = λ rest. refl
+plain_declaration (e.DeclaredQuery reader items) = λ rest. refl
+plain_declaration (e.DeclaredScript events) = λ rest. refl
+plain_declaration (e.DeclaredSetting (setting.Policy policy)) = λ rest. refl
+plain_declaration (e.DeclaredSetting (setting.Number name value)) = λ rest. refl
 
 pub declarations_spell : (es : List Declaration) (d : DraftValue) → draft_of es ≡ d → Passes (draft_of []) es → first_of (end_tests (length d.items) d.disks d.set) ≡ None
     → Spells (rows_text (map declaration_row es)) (deck_from d)

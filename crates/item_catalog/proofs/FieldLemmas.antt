@@ -1,7 +1,7 @@
 -- The fields of a record, by their number and one by one: up to four of them.
 use Rattle.std.proofs.Common.{◌≡◌, ◌≢◌, ◌<◌, ◌∷◌, [], ℕ, zero, suc, List, Option, Some, None, length, drop, refl, arith}
 use Rattle.csv.specs.Records.{field_at}
-use Rattle.air_base.specs.Pieces.{one_of, three_of, two_of}
+use Rattle.air_base.specs.Parts.{one_of, three_of, two_of}
 use Rattle.item_catalog.specs.RecordFields.{four_of}
 
 pub field_there : (fields : List (List ℕ)) (place : ℕ) → place < length fields → None ≡ field_at fields place → ⊥

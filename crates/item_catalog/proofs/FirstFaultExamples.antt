@@ -7,7 +7,7 @@ use Rattle.air_model.specs.Decks.{Deck}
 use Rattle.item_catalog.specs.Fields.{freq_of}
 use Rattle.item_catalog.specs.Faults.{kinds_at}
 use Rattle.item_catalog.specs.FirstFaults.{IsFirstFault, IsLeastKind, NoneBefore}
-use Rattle.item_catalog.specs.Grammar.{RowsFail, RowsSpell}
+use Rattle.item_catalog.specs.Grammar.{RecordsFail, RecordsSpell}
 
 -- ---- the least kind of a place, and the first place
 
@@ -72,7 +72,7 @@ small = record {
   settings = record { policy = FMatrix; version = 1; cycles = 10; seed = 0; loss = 0; again = 0; late = 0; monitors = 0; hears = 1000000 };
 }
 
-spell : RowsSpell (item0 ∷ disk1 ∷ []) small
+spell : RecordsSpell (item0 ∷ disk1 ∷ []) small
 unfolding kinds_at number_of freq_of
 spell = record { faultless = none; parts = refl }
   where
@@ -83,7 +83,7 @@ spell = record { faultless = none; parts = refl }
     none (suc (suc (suc place))) below = absurd (omega arith)
 
 -- Not without the disk, nor another deck.
-not_spell : (RowsSpell (item0 ∷ []) (record small { disks = [] }) → ⊥) × (RowsSpell (item0 ∷ disk1 ∷ []) (record small { disks = [] }) → ⊥)
+not_spell : (RecordsSpell (item0 ∷ []) (record small { disks = [] }) → ⊥) × (RecordsSpell (item0 ∷ disk1 ∷ []) (record small { disks = [] }) → ⊥)
 unfolding kinds_at number_of freq_of
 not_spell = (
   λ h. let e : ◌≡◌ {A = List ℕ} (6 ∷ 7 ∷ []) [] = h.faultless 1 (omega arith) in cc,
@@ -91,7 +91,7 @@ not_spell = (
 )
 
 -- Without a disk the end fails: the sizes come to less than the items.
-fail : RowsFail (item0 ∷ []) 1 6
+fail : RecordsFail (item0 ∷ []) 1 6
 unfolding kinds_at number_of
 fail = record { within = omega arith; first = before; least = is_least }
   where
@@ -99,7 +99,7 @@ fail = record { within = omega arith; first = before; least = is_least }
     before zero below = refl
     before (suc place) below = absurd (omega arith)
 
-not_fail : (RowsFail (item0 ∷ []) 1 7 → ⊥) × (RowsFail (item0 ∷ []) 0 6 → ⊥)
+not_fail : (RecordsFail (item0 ∷ []) 1 7 → ⊥) × (RecordsFail (item0 ∷ []) 0 6 → ⊥)
 unfolding kinds_at number_of
 not_fail = (λ h. not_least.0 h.least, λ h. none h.least.one)
   where

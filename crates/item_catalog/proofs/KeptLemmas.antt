@@ -62,13 +62,13 @@ InRange (setting.Policy policy) = Unit {0}
 InRange (setting.Number name n) = ((range_of name).0 ≤ n) × (n ≤ (range_of name).1)
 
 abbrev pub Spelt : Declaration → Type 0
-Spelt (e.Item id value rate) = value < 2 ^ 64
-Spelt (e.Disk size freq) = Unit {0}
-Spelt (e.Update by reads writes) = (list_all is_signed writes ≡ true) × All (λ w. w.amount < 2 ^ 64) writes
-Spelt (e.Reader room age tries) = Unit {0}
-Spelt (e.Query reader items) = Unit {0}
-Spelt (e.Script events) = Unit {0}
-Spelt (e.Set s) = InRange s
+Spelt (e.DeclaredItem id value rate) = value < 2 ^ 64
+Spelt (e.DeclaredDisk size freq) = Unit {0}
+Spelt (e.DeclaredUpdate by reads writes) = (list_all is_signed writes ≡ true) × All (λ w. w.amount < 2 ^ 64) writes
+Spelt (e.DeclaredReader room age tries) = Unit {0}
+Spelt (e.DeclaredQuery reader items) = Unit {0}
+Spelt (e.DeclaredScript events) = Unit {0}
+Spelt (e.DeclaredSetting s) = InRange s
 
 -- ---- what is kept
 

@@ -15,7 +15,7 @@ use Rattle.item_catalog.specs.Decks.{for_each}
 use Rattle.item_catalog.specs.Private.Drafts.{draft_of, draft_tests}
 use Rattle.item_catalog.specs.Declarations.{Declaration, spelled_declaration}
 use Rattle.item_catalog.specs.Faults.{end_tests, declarations_in, kinds_after, kinds_at, tests_of}
-use Rattle.item_catalog.specs.Grammar.{RowsSpell}
+use Rattle.item_catalog.specs.Grammar.{RecordsSpell}
 use Rattle.item_catalog.specs.Kinds.{deck_kind_number}
 use Rattle.item_catalog.specs.Parts.{disk_parts_in, items_in, set_in}
 use Rattle.item_catalog.specs.declared.faults.FaultKind.{FaultKind}
@@ -77,7 +77,7 @@ unfolding kinds_at
 kept_all rows before = along judge (λ rows. Kept (draft_of (declarations_in rows))) kept_none (λ rows row none k. kept_row rows row none k) rows before
 
 -- What records spell is well made, and within the limits.
-pub spelled_made : (rows : List (List (List ℕ))) (deck : Deck) → RowsSpell rows deck → IsDeck deck × WithinLimits deck
+pub spelled_made : (rows : List (List (List ℕ))) (deck : Deck) → RecordsSpell rows deck → IsDeck deck × WithinLimits deck
 unfolding kinds_at
 spelled_made rows deck spelled =
     let k = kept_all rows (λ place below. spelled.faultless place (omega arith)) in

@@ -59,7 +59,7 @@ each_push {A = A} P lists i x all here k d below = by (cases_eq k i)
     by (inr differs) = rw (get_or-set_other lists i k (get_or lists i [] ++ x ∷ []) d differs) (all k d inside)
 
 module _ (d : DraftValue) (k : Kept d) where
-  kept_item : (id value rate : ℕ) → value < 2 ^ 64 → first_of (draft_tests d (e.Item id value rate)) ≡ None → Kept (with_declaration d (e.Item id value rate))
+  kept_item : (id value rate : ℕ) → value < 2 ^ 64 → first_of (draft_tests d (e.DeclaredItem id value rate)) ≡ None → Kept (with_declaration d (e.DeclaredItem id value rate))
   kept_item id value rate fits none =
       let t = none_of_two fault.Id fault.Limit (not (id == length d.items)) (nat_lt MOST_RATE rate || nat_le MOST_ITEMS (length d.items)) none in
       let seven = or_none (nat_lt MOST_RATE rate) (nat_le MOST_ITEMS (length d.items)) t.1 in
@@ -88,7 +88,7 @@ module _ (d : DraftValue) (k : Kept d) where
         set = k.set;
       }
 
-  kept_disk : (size : ℕ) (freq : Option ℕ) → first_of (draft_tests d (e.Disk size freq)) ≡ None → Kept (with_declaration d (e.Disk size freq))
+  kept_disk : (size : ℕ) (freq : Option ℕ) → first_of (draft_tests d (e.DeclaredDisk size freq)) ≡ None → Kept (with_declaration d (e.DeclaredDisk size freq))
   kept_disk size freq none =
       let t = none_of_one fault.Limit ((nat_lt size 1 || nat_lt MOST_SIZE size) || option_any (outside 1 MOST_FREQ) freq || nat_le MOST_DISKS (length d.disks)) none in
       let all = or_none ((nat_lt size 1 || nat_lt MOST_SIZE size) || option_any (outside 1 MOST_FREQ) freq) (nat_le MOST_DISKS (length d.disks)) t in
@@ -108,7 +108,7 @@ module _ (d : DraftValue) (k : Kept d) where
         set = k.set;
       }
 
-  kept_reader : (room age tries : ℕ) → first_of (draft_tests d (e.Reader room age tries)) ≡ None → Kept (with_declaration d (e.Reader room age tries))
+  kept_reader : (room age tries : ℕ) → first_of (draft_tests d (e.DeclaredReader room age tries)) ≡ None → Kept (with_declaration d (e.DeclaredReader room age tries))
   kept_reader room age tries none =
       let t = none_of_one fault.Limit (nat_lt MOST_ROOM room || nat_lt MOST_AGE age || (nat_lt tries 1 || nat_lt MOST_TRIES tries) || nat_le MOST_READERS (length d.readers)) none in
       let all = or_none (nat_lt MOST_ROOM room || nat_lt MOST_AGE age || (nat_lt tries 1 || nat_lt MOST_TRIES tries)) (nat_le MOST_READERS (length d.readers)) t in
@@ -168,8 +168,8 @@ no_parts by (event ∷ script) none past =
     one (Some who) h = let low : who < MOST_UPDATERS = grind (arith, nat_tests, h) in let other : (who == by) ≡ false = grind arith in rw other refl
 
 module _ (d : DraftValue) (k : Kept d) where
-  kept_update : (by : ℕ) (rs : List ℕ) (ws : List Write) → list_all is_signed ws ≡ true → All (λ w. w.amount < 2 ^ 64) ws → first_of (draft_tests d (e.Update by rs ws)) ≡ None
-      → Kept (with_declaration d (e.Update by rs ws))
+  kept_update : (by : ℕ) (rs : List ℕ) (ws : List Write) → list_all is_signed ws ≡ true → All (λ w. w.amount < 2 ^ 64) ws → first_of (draft_tests d (e.DeclaredUpdate by rs ws)) ≡ None
+      → Kept (with_declaration d (e.DeclaredUpdate by rs ws))
   kept_update by rs ws signed amounts none =
       let t = update_tested (length d.items) by d.update_count rs ws none in
       let u : UpdateLists = record { reads = rs; writes = ws } in
@@ -201,7 +201,7 @@ module _ (d : DraftValue) (k : Kept d) where
         set = k.set;
       }
 
-  kept_query : (reader : ℕ) (asked : List ℕ) → first_of (draft_tests d (e.Query reader asked)) ≡ None → Kept (with_declaration d (e.Query reader asked))
+  kept_query : (reader : ℕ) (asked : List ℕ) → first_of (draft_tests d (e.DeclaredQuery reader asked)) ≡ None → Kept (with_declaration d (e.DeclaredQuery reader asked))
   kept_query reader asked none =
       let t = none_of_three fault.Undeclared fault.Twice fault.Limit (nat_le (length d.readers) reader || reaches (length d.items) asked) (has_repeat asked) ((nat_lt (length asked) 1 || nat_lt MOST_ASKED (length asked)) || nat_le MOST_QUERIES d.query_count) none in
       let four = or_none (nat_le (length d.readers) reader) (reaches (length d.items) asked) t.0 in
@@ -227,7 +227,7 @@ module _ (d : DraftValue) (k : Kept d) where
         set = k.set;
       }
 
-  kept_script : (events : List (Option ℕ)) → first_of (draft_tests d (e.Script events)) ≡ None → Kept (with_declaration d (e.Script events))
+  kept_script : (events : List (Option ℕ)) → first_of (draft_tests d (e.DeclaredScript events)) ≡ None → Kept (with_declaration d (e.DeclaredScript events))
   kept_script events none =
       let t = none_of_two fault.Limit fault.Overdrawn (script_passes d.script events) (some_below MOST_UPDATERS (λ by. nat_lt (length (get_or d.updates by [])) (count_parts by (d.script ++ events)))) none in
       let seven = or_none (list_any (option_any (nat_le MOST_UPDATERS)) events || nat_lt MOST_EVENTS (length d.script + length events)) (nat_lt MOST_STARTS (count_starts d.script + count_starts events)) t.0 in
@@ -253,7 +253,7 @@ module _ (d : DraftValue) (k : Kept d) where
         set = k.set;
       }
 
-  kept_set : (s : Setting) → InRange s → Kept (with_declaration d (e.Set s))
+  kept_set : (s : Setting) → InRange s → Kept (with_declaration d (e.DeclaredSetting s))
   kept_set s range = record {
     items = k.items;
     disks = k.disks;
@@ -266,10 +266,10 @@ module _ (d : DraftValue) (k : Kept d) where
 
 -- One more declaration.
 pub kept_more : (d : DraftValue) (x : Declaration) → Kept d → Spelt x → first_of (draft_tests d x) ≡ None → Kept (with_declaration d x)
-kept_more d (e.Item id value rate) k spelt none = kept_item d k id value rate spelt none
-kept_more d (e.Disk size freq) k spelt none = kept_disk d k size freq none
-kept_more d (e.Update by reads writes) k spelt none = kept_update d k by reads writes spelt.0 spelt.1 none
-kept_more d (e.Reader room age tries) k spelt none = kept_reader d k room age tries none
-kept_more d (e.Query reader items) k spelt none = kept_query d k reader items none
-kept_more d (e.Script events) k spelt none = kept_script d k events none
-kept_more d (e.Set s) k spelt none = kept_set d k s spelt
+kept_more d (e.DeclaredItem id value rate) k spelt none = kept_item d k id value rate spelt none
+kept_more d (e.DeclaredDisk size freq) k spelt none = kept_disk d k size freq none
+kept_more d (e.DeclaredUpdate by reads writes) k spelt none = kept_update d k by reads writes spelt.0 spelt.1 none
+kept_more d (e.DeclaredReader room age tries) k spelt none = kept_reader d k room age tries none
+kept_more d (e.DeclaredQuery reader items) k spelt none = kept_query d k reader items none
+kept_more d (e.DeclaredScript events) k spelt none = kept_script d k events none
+kept_more d (e.DeclaredSetting s) k spelt none = kept_set d k s spelt

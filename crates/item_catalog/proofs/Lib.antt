@@ -1,5 +1,5 @@
 pub mod DiskLemmas
-pub mod EventFronts
+pub mod LeadingEventLemmas
 pub mod WriteLemmas
 pub mod ScriptLemmas
 pub mod DeclarationLemmas
@@ -15,8 +15,8 @@ pub mod GrammarLemmas
 pub mod GrammarExamples
 pub mod DealLemmas
 pub mod DrillLemmas
-pub mod WriteFronts
-pub mod PartFronts
+pub mod SplitWriteLemmas
+pub mod LeadingWriteLemmas
 pub mod WritePlaces
 pub mod RepeatLemmas
 pub mod SeenLemmas

@@ -12,7 +12,7 @@ use Rattle.item_catalog.specs.Private.Drafts.{draft_of, record_kind, with_declar
 use Rattle.item_catalog.specs.Declarations.{Declaration, spelled_declaration}
 use Rattle.item_catalog.specs.Declarations as e
 use Rattle.item_catalog.specs.Faults.{end_tests, declarations_in, kinds_after, kinds_at, place_kinds, tests_of}
-use Rattle.item_catalog.specs.Grammar.{RowsFail}
+use Rattle.item_catalog.specs.Grammar.{RecordsFail}
 use Rattle.item_catalog.specs.Kinds.{deck_kind_number}
 use Rattle.item_catalog.specs.Parts.{disk_parts_in, items_in, set_in}
 use Rattle.item_catalog.specs.declared.faults.FaultKind.{FaultKind}
@@ -24,13 +24,13 @@ judge rows row = place_kinds (declarations_in rows) row
 
 -- The tests of each tag rise, and those at the end.
 tests_rise : (before : List Declaration) (x : Declaration) → rising deck_kind_number 0 (tests_of before x) ≡ true
-tests_rise before (e.Item id value rate) = refl
-tests_rise before (e.Disk size freq) = refl
-tests_rise before (e.Update by reads writes) = refl
-tests_rise before (e.Reader room age tries) = refl
-tests_rise before (e.Query reader items) = refl
-tests_rise before (e.Script events) = refl
-tests_rise before (e.Set setting) = refl
+tests_rise before (e.DeclaredItem id value rate) = refl
+tests_rise before (e.DeclaredDisk size freq) = refl
+tests_rise before (e.DeclaredUpdate by reads writes) = refl
+tests_rise before (e.DeclaredReader room age tries) = refl
+tests_rise before (e.DeclaredQuery reader items) = refl
+tests_rise before (e.DeclaredScript events) = refl
+tests_rise before (e.DeclaredSetting setting) = refl
 
 -- A draft judges as the declarations do that it was made of.
 record_kind_same : (es : List Declaration) (spelled : Result Declaration FaultKind) → record_kind (draft_of es) spelled ≡ least_kind (tests_of es) spelled
@@ -61,7 +61,7 @@ abbrev pub end_of : List (List (List ℕ)) → Option FaultKind
 end_of rows = first_of (end_tests (length (items_in (declarations_in rows))) (disk_parts_in (declarations_in rows)) (set_in (declarations_in rows)))
 
 module _ (rows : List (List (List ℕ))) where
-  pub ended_bad : (kind : FaultKind) → NoneBefore (kinds_at rows) (length rows) → end_of rows ≡ Some kind → RowsFail rows (length rows) (deck_kind_number kind)
+  pub ended_bad : (kind : FaultKind) → NoneBefore (kinds_at rows) (length rows) → end_of rows ≡ Some kind → RecordsFail rows (length rows) (deck_kind_number kind)
   unfolding kinds_at
   ended_bad kind before h = record {
     within = omega arith;

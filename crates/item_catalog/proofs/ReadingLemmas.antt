@@ -11,7 +11,7 @@ use Rattle.item_catalog.specs.Private.Drafts.{DraftValue, deck_from, draft_of, r
 use Rattle.item_catalog.specs.Private.ReadEnds.{CanEnd, EndsBy}
 use Rattle.item_catalog.specs.Declarations.{spelled_declaration}
 use Rattle.item_catalog.specs.Faults.{end_tests, declarations_in, kinds_at}
-use Rattle.item_catalog.specs.Grammar.{HasFault, IsErrorOf, RowsFail, RowsSpell, Spells}
+use Rattle.item_catalog.specs.Grammar.{HasFault, IsErrorOf, RecordsFail, RecordsSpell, Spells}
 use Rattle.item_catalog.specs.Kinds.{deck_kind_number}
 use Rattle.item_catalog.specs.declared.faults.FaultKind.{FaultKind}
 use Rattle.item_catalog.specs.declared.faults.DeckError.{DeckError}
@@ -30,7 +30,7 @@ module _ (text : List ℕ) (rows : List (List (List ℕ))) (before : NoneBefore 
       → record_kind (draft_of (declarations_in rows)) (spelled_declaration row) ≡ Some kind → HasFault text (length rows + 1) (deck_kind_number kind)
   unfolding HasFault kinds_at
   read_fault row left kind all h =
-      let P : List (List (List ℕ)) → Type 0 = λ all. RowsFail all (length rows) (deck_kind_number kind) in
+      let P : List (List (List ℕ)) → Type 0 = λ all. RecordsFail all (length rows) (deck_kind_number kind) in
       let within : length rows < length (rows ++ row ∷ left) + 1 = omega (arith, length-append rows (row ∷ left)) in
       (length rows, refl, subst P (sym all) (refused judge rows row left (length (rows ++ row ∷ left) + 1) (deck_kind_number kind) within before (least_after rows row kind h)))
 
@@ -41,13 +41,13 @@ module _ (text : List ℕ) (rows : List (List (List ℕ))) (before : NoneBefore 
     pub read_end_fault : (kind : FaultKind) → end_of rows ≡ Some kind → HasFault text (length rows + 1) (deck_kind_number kind)
     unfolding HasFault
     read_end_fault kind h =
-        let P : List (List (List ℕ)) → Type 0 = λ all. RowsFail all (length rows) (deck_kind_number kind) in
+        let P : List (List (List ℕ)) → Type 0 = λ all. RecordsFail all (length rows) (deck_kind_number kind) in
         (length rows, refl, subst P (sym every_row) (ended_bad rows kind before h))
 
     pub read_deck_is : end_of rows ≡ None → Spells text (deck_from (draft_of (declarations_in rows)))
     unfolding Spells
     read_deck_is h =
-        let P : List (List (List ℕ)) → Type 0 = λ all. RowsSpell all (deck_from (draft_of (declarations_in rows))) in
+        let P : List (List (List ℕ)) → Type 0 = λ all. RecordsSpell all (deck_from (draft_of (declarations_in rows))) in
         subst P (sym every_row) (record { faultless = ended_good rows before h; parts = deck_same (declarations_in rows) (kept_all rows before) })
 
 -- What the end answers, where the draft has what the records declare.

@@ -12,7 +12,7 @@ use Rattle.item_catalog.specs.Declarations as e
 use Rattle.item_catalog.specs.DeckLimits.{WithinLimits}
 use Rattle.item_catalog.specs.Decks.{deck_of}
 use Rattle.item_catalog.specs.Faults.{declarations_in}
-use Rattle.item_catalog.specs.Grammar.{RowsSpell, Spells}
+use Rattle.item_catalog.specs.Grammar.{RecordsSpell, Spells}
 use Rattle.item_catalog.specs.Parts.{greatest_number, its_update, its_updaters, updaters_in, updates_in}
 use Rattle.item_catalog.specs.DeckTexts.{LastUpdates, deck_declarations, deck_text, declaration_row}
 use Rattle.item_catalog.proofs.DraftSteps.{declarations_spell}
@@ -44,17 +44,17 @@ module _ (last : ℕ) where
 
   last_updates : (declarations : List Declaration) → greatest_number (map its_updaters declarations) ≡ last + 1 → 0 < length (own_updates declarations)
   last_updates [] same = absurd (omega arith)
-  last_updates (e.Item id value rate ∷ declarations) same = last_updates declarations (omega arith)
-  last_updates (e.Disk size freq ∷ declarations) same = last_updates declarations (omega arith)
-  last_updates (e.Update by reads writes ∷ declarations) same = at (by == last) refl (last_updates declarations)
+  last_updates (e.DeclaredItem id value rate ∷ declarations) same = last_updates declarations (omega arith)
+  last_updates (e.DeclaredDisk size freq ∷ declarations) same = last_updates declarations (omega arith)
+  last_updates (e.DeclaredUpdate by reads writes ∷ declarations) same = at (by == last) refl (last_updates declarations)
     where
-      at : (b : Bool) → (by == last) ≡ b → (greatest_number (map its_updaters declarations) ≡ last + 1 → 0 < length (own_updates declarations)) → 0 < length (own_updates (e.Update by reads writes ∷ declarations))
+      at : (b : Bool) → (by == last) ≡ b → (greatest_number (map its_updaters declarations) ≡ last + 1 → 0 < length (own_updates declarations)) → 0 < length (own_updates (e.DeclaredUpdate by reads writes ∷ declarations))
       at true h more = rw h (omega arith)
       at false h more = let other : by ≡ last → ⊥ = grind (arith, nat_tests) in rw h (more (omega (arith, other, same)))
-  last_updates (e.Reader room age tries ∷ declarations) same = last_updates declarations (omega arith)
-  last_updates (e.Query reader items ∷ declarations) same = last_updates declarations (omega arith)
-  last_updates (e.Script events ∷ declarations) same = last_updates declarations (omega arith)
-  last_updates (e.Set s ∷ declarations) same = last_updates declarations (omega arith)
+  last_updates (e.DeclaredReader room age tries ∷ declarations) same = last_updates declarations (omega arith)
+  last_updates (e.DeclaredQuery reader items ∷ declarations) same = last_updates declarations (omega arith)
+  last_updates (e.DeclaredScript events ∷ declarations) same = last_updates declarations (omega arith)
+  last_updates (e.DeclaredSetting s ∷ declarations) same = last_updates declarations (omega arith)
 
 declarations_last : (declarations : List Declaration) → LastUpdates (deck_of declarations)
 declarations_last declarations last same =
@@ -63,5 +63,5 @@ declarations_last declarations last same =
     let own = get_or-map-range_with_len (updates_in declarations) 0 n last last [] (omega arith) (omega arith) in
     omega (arith, ap length own, last_updates last declarations long)
 
-pub spelled_last : (rows : List (List (List ℕ))) (deck : Deck) → RowsSpell rows deck → LastUpdates deck
+pub spelled_last : (rows : List (List (List ℕ))) (deck : Deck) → RecordsSpell rows deck → LastUpdates deck
 spelled_last rows deck spelled = subst LastUpdates (sym spelled.parts) (declarations_last (declarations_in rows))

@@ -27,34 +27,34 @@ less = record { item = 3; base = Some 4; minus = true; amount = 5 }
 
 -- Declarations of every tag, in no order.
 abbrev all : List Declaration
-all = e.Update 2 (4 ∷ []) (less ∷ []) ∷ e.Item 0 10 1 ∷ e.Query 1 (0 ∷ []) ∷ e.Disk 2 None ∷ e.Reader 1 2 3 ∷ e.Script (None ∷ Some 2 ∷ []) ∷ e.Item 1 20 5
-    ∷ e.Set (setting.Number Loss 3) ∷ e.Disk 1 (Some 7) ∷ e.Script (None ∷ []) ∷ e.Query 0 (1 ∷ 0 ∷ []) ∷ []
+all = e.DeclaredUpdate 2 (4 ∷ []) (less ∷ []) ∷ e.DeclaredItem 0 10 1 ∷ e.DeclaredQuery 1 (0 ∷ []) ∷ e.DeclaredDisk 2 None ∷ e.DeclaredReader 1 2 3 ∷ e.DeclaredScript (None ∷ Some 2 ∷ []) ∷ e.DeclaredItem 1 20 5
+    ∷ e.DeclaredSetting (setting.Number Loss 3) ∷ e.DeclaredDisk 1 (Some 7) ∷ e.DeclaredScript (None ∷ []) ∷ e.DeclaredQuery 0 (1 ∷ 0 ∷ []) ∷ []
 
 pub record Parts : Type 0 where
-  of_item : its_item (e.Item 0 10 1) ≡ Some (record { value = 10; rate = 1 })
-  no_item : its_item (e.Disk 2 None) ≡ None
+  of_item : its_item (e.DeclaredItem 0 10 1) ≡ Some (record { value = 10; rate = 1 })
+  no_item : its_item (e.DeclaredDisk 2 None) ≡ None
   both_items : items_in all ≡ record { value = 10; rate = 1 } ∷ record { value = 20; rate = 5 } ∷ []
-  of_disk : its_disk (e.Disk 2 None) ≡ Some (record { size = 2; freq = None })
+  of_disk : its_disk (e.DeclaredDisk 2 None) ≡ Some (record { size = 2; freq = None })
   both_disks : disk_parts_in all ≡ record { size = 2; freq = None } ∷ record { size = 1; freq = Some 7 } ∷ []
-  of_update : its_update 2 (e.Update 2 [] []) ≡ Some (record { reads = []; writes = [] })
-  other_update : its_update 1 (e.Update 2 [] []) ≡ None
+  of_update : its_update 2 (e.DeclaredUpdate 2 [] []) ≡ Some (record { reads = []; writes = [] })
+  other_update : its_update 1 (e.DeclaredUpdate 2 [] []) ≡ None
   one_update : updates_in all 2 ≡ record { reads = 4 ∷ []; writes = less ∷ [] } ∷ []
-  an_update : is_update (e.Update 2 [] []) ≡ true
+  an_update : is_update (e.DeclaredUpdate 2 [] []) ≡ true
   all_updates : count_updates all ≡ 1
   greatest_of_three : greatest_number (2 ∷ 5 ∷ 3 ∷ []) ≡ 5
-  of_updaters : its_updaters (e.Update 2 [] []) ≡ 3
+  of_updaters : its_updaters (e.DeclaredUpdate 2 [] []) ≡ 3
   all_updaters : updaters_in all ≡ 3
-  of_reader : its_reader (e.Reader 1 2 3) ≡ Some (record { room = 1; age = 2; tries = 3 })
+  of_reader : its_reader (e.DeclaredReader 1 2 3) ≡ Some (record { room = 1; age = 2; tries = 3 })
   one_reader : readers_in all ≡ record { room = 1; age = 2; tries = 3 } ∷ []
-  of_query : its_query 0 (e.Query 0 (1 ∷ [])) ≡ Some (1 ∷ [])
-  other_query : its_query 0 (e.Query 1 (1 ∷ [])) ≡ None
+  of_query : its_query 0 (e.DeclaredQuery 0 (1 ∷ [])) ≡ Some (1 ∷ [])
+  other_query : its_query 0 (e.DeclaredQuery 1 (1 ∷ [])) ≡ None
   one_query : queries_in all 0 ≡ (1 ∷ 0 ∷ []) ∷ []
-  a_query : is_query (e.Query 0 []) ≡ true
+  a_query : is_query (e.DeclaredQuery 0 []) ≡ true
   both_queries : count_queries all ≡ 2
-  of_script : its_events (e.Script (None ∷ Some 2 ∷ [])) ≡ None ∷ Some 2 ∷ []
-  no_events : its_events (e.Item 0 10 1) ≡ []
+  of_script : its_events (e.DeclaredScript (None ∷ Some 2 ∷ [])) ≡ None ∷ Some 2 ∷ []
+  no_events : its_events (e.DeclaredItem 0 10 1) ≡ []
   whole_script : script_in all ≡ None ∷ Some 2 ∷ None ∷ []
-  of_setting : its_setting (e.Set (setting.Number Loss 3)) ≡ Some (setting.Number Loss 3)
+  of_setting : its_setting (e.DeclaredSetting (setting.Number Loss 3)) ≡ Some (setting.Number Loss 3)
   one_setting : set_in all ≡ setting.Number Loss 3 ∷ []
   start_part : is_start_part None ≡ true
   commit_part : is_start_part (Some 0) ≡ false
@@ -64,7 +64,7 @@ pub record Parts : Type 0 where
   -- Of three disks without a number, delta being 2, and of two where it isn't set.
   by_delta : with_freqs 2 (record { size = 1; freq = None } ∷ record { size = 2; freq = None } ∷ record { size = 3; freq = Some 9 } ∷ [])
       ≡ record { size = 1; freq = 5 } ∷ record { size = 2; freq = 3 } ∷ record { size = 3; freq = 9 } ∷ []
-  without_delta : (deck_of (e.Disk 1 None ∷ e.Disk 2 None ∷ [])).disks ≡ record { size = 1; freq = 1 } ∷ record { size = 2; freq = 1 } ∷ []
+  without_delta : (deck_of (e.DeclaredDisk 1 None ∷ e.DeclaredDisk 2 None ∷ [])).disks ≡ record { size = 1; freq = 1 } ∷ record { size = 2; freq = 1 } ∷ []
 
 parts : Parts
 parts = record {
@@ -162,8 +162,8 @@ pub record Tests : Type 0 where
   most_in_full : kinds (end_tests 256 (record { size = 256; freq = None } ∷ []) []) ≡ []
   too_many_in_full : kinds (end_tests 257 (record { size = 257; freq = None } ∷ []) (setting.Number Version 1 ∷ [])) ≡ 7 ∷ []
   by_ages : kinds (end_tests 257 (record { size = 257; freq = None } ∷ []) (setting.Number Version 2 ∷ [])) ≡ []
-  by_declarations : kinds (tests_of all (e.Item 1 5 1)) ≡ 3 ∷ []
-  after_declarations : kinds_after all (Ok (e.Item 2 5 1)) ≡ []
+  by_declarations : kinds (tests_of all (e.DeclaredItem 1 5 1)) ≡ 3 ∷ []
+  after_declarations : kinds_after all (Ok (e.DeclaredItem 2 5 1)) ≡ []
   in_place : place_kinds all (Some (codes "item" ∷ codes "3" ∷ codes "5" ∷ codes "1" ∷ [])) ≡ 3 ∷ []
   end_in_place : place_kinds all None ≡ 6 ∷ []
 

@@ -60,11 +60,11 @@ read_rows ([] ∷ rows) h = absurd h.0
 read_rows ((field ∷ fields) ∷ rows) h =
     ((field ∷ fields, st.StartRecord, rows_text rows), ap (λ t. next_record default_config st.StartRecord [] [] (t ++ rows_text rows)) (same_row (field ∷ fields)) ∙ read-write (field ∷ fields) (rows_text rows), refl, read_rows rows h.1)
 
-front_plain : (rows : List (List (List ℕ))) → EachPlain rows → Unmarked (rows_text rows)
+leading_plain : (rows : List (List (List ℕ))) → EachPlain rows → Unmarked (rows_text rows)
 unfolding rows_text
-front_plain [] h = tt
-front_plain ([] ∷ rows) h = absurd h.0
-front_plain ((field ∷ fields) ∷ rows) h = h.0 (flat_map (row_text row_writer) rows)
+leading_plain [] h = tt
+leading_plain ([] ∷ rows) h = absurd h.0
+leading_plain ((field ∷ fields) ∷ rows) h = h.0 (flat_map (row_text row_writer) rows)
 
 unmarked : (text : List ℕ) → Unmarked text → strip_bom text ≡ text
 unfolding strip_bom
@@ -79,5 +79,5 @@ nothing_left = refl
 
 pub written_rows : (rows : List (List (List ℕ))) → EachPlain rows → records_of (rows_text rows) ≡ rows
 written_rows rows plain =
-    let same = unmarked (rows_text rows) (front_plain rows plain) in
+    let same = unmarked (rows_text rows) (leading_plain rows plain) in
     rw same (all_rows default_config (rows_text rows) rows st.StartRecord [] (read_rows rows plain) nothing_left)

@@ -72,27 +72,27 @@ set_row (setting.Number name value) = codes "set" ∷ name_text name ∷ number_
 
 -- The record of a declaration: its tag, and what it says.
 abbrev pub declaration_row : Declaration → List (List ℕ)
-declaration_row (e.Item id value rate) = codes "item" ∷ number_text id ∷ number_text value ∷ number_text rate ∷ []
-declaration_row (e.Disk size freq) = codes "disk" ∷ number_text size ∷ freq_text freq ∷ []
-declaration_row (e.Update by reads writes) = codes "update" ∷ number_text by ∷ list_text (map number_text reads) ∷ list_text (map write_text writes) ∷ []
-declaration_row (e.Reader room age tries) = codes "reader" ∷ number_text room ∷ number_text age ∷ number_text tries ∷ []
-declaration_row (e.Query reader items) = codes "query" ∷ number_text reader ∷ list_text (map number_text items) ∷ []
-declaration_row (e.Script events) = codes "script" ∷ list_text (map event_text events) ∷ []
-declaration_row (e.Set s) = set_row s
+declaration_row (e.DeclaredItem id value rate) = codes "item" ∷ number_text id ∷ number_text value ∷ number_text rate ∷ []
+declaration_row (e.DeclaredDisk size freq) = codes "disk" ∷ number_text size ∷ freq_text freq ∷ []
+declaration_row (e.DeclaredUpdate by reads writes) = codes "update" ∷ number_text by ∷ list_text (map number_text reads) ∷ list_text (map write_text writes) ∷ []
+declaration_row (e.DeclaredReader room age tries) = codes "reader" ∷ number_text room ∷ number_text age ∷ number_text tries ∷ []
+declaration_row (e.DeclaredQuery reader items) = codes "query" ∷ number_text reader ∷ list_text (map number_text items) ∷ []
+declaration_row (e.DeclaredScript events) = codes "script" ∷ list_text (map event_text events) ∷ []
+declaration_row (e.DeclaredSetting s) = set_row s
 
 -- ---- the declarations of a deck
 
 -- An item with its place.
 abbrev pub item_declaration : ℕ × Item → Declaration
-item_declaration item = e.Item item.0 item.1.value item.1.rate
+item_declaration item = e.DeclaredItem item.0 item.1.value item.1.rate
 
 -- A disk with its frequency.
 abbrev pub disk_declaration : DiskSpec → Declaration
-disk_declaration disk = e.Disk disk.size (Some disk.freq)
+disk_declaration disk = e.DeclaredDisk disk.size (Some disk.freq)
 
 -- An update of an updater.
 abbrev pub update_declaration : ℕ → UpdateLists → Declaration
-update_declaration by update = e.Update by update.reads update.writes
+update_declaration by update = e.DeclaredUpdate by update.reads update.writes
 
 -- The updates of updaters, the first of which has this number.
 abbrev pub update_declarations : ℕ → List (List UpdateLists) → List Declaration
@@ -100,11 +100,11 @@ update_declarations from updates = flat_map (λ (own : ℕ × List UpdateLists).
 
 -- A reader.
 abbrev pub reader_declaration : ReaderPlan → Declaration
-reader_declaration reader = e.Reader reader.room reader.age reader.tries
+reader_declaration reader = e.DeclaredReader reader.room reader.age reader.tries
 
 -- The queries of readers, the first of which has this number.
 abbrev pub query_declarations : ℕ → List (List (List ℕ)) → List Declaration
-query_declarations from queries = flat_map (λ (own : ℕ × List (List ℕ)). map (e.Query own.0) own.1) (enumerate_from from queries)
+query_declarations from queries = flat_map (λ (own : ℕ × List (List ℕ)). map (e.DeclaredQuery own.0) own.1) (enumerate_from from queries)
 
 -- All settings but delta.
 abbrev pub all_set : Settings → List Setting
@@ -116,7 +116,7 @@ all_set s =
 abbrev pub deck_declarations : Deck → List Declaration
 deck_declarations deck =
     map item_declaration (enumerate_from 0 deck.items)
-    ++ (map disk_declaration deck.disks ++ (update_declarations 0 deck.updates ++ (map reader_declaration deck.readers ++ (query_declarations 0 deck.queries ++ (e.Script deck.script ∷ map e.Set (all_set deck.settings))))))
+    ++ (map disk_declaration deck.disks ++ (update_declarations 0 deck.updates ++ (map reader_declaration deck.readers ++ (query_declarations 0 deck.queries ++ (e.DeclaredScript deck.script ∷ map e.DeclaredSetting (all_set deck.settings))))))
 
 -- The text of a deck.
 unfoldable pub deck_text : Deck → List ℕ

@@ -5,7 +5,7 @@
 use Rattle.std.specs.Prelude.{ℕ, List, Option, Some, None, Result, Err, codes, if◌then◌else◌}
 use Rattle.air_base.specs.Numbers.{number_of}
 use Rattle.air_base.specs.NumberLists.{list_of}
-use Rattle.air_base.specs.Pieces.{one_of, two_of, three_of}
+use Rattle.air_base.specs.Parts.{one_of, two_of, three_of}
 use Rattle.air_history.specs.declared.updates.Write.{Write}
 use Rattle.item_catalog.specs.Writes.{spelled_write}
 use Rattle.item_catalog.specs.RecordFields.{◌is◌}
@@ -21,13 +21,13 @@ use Rattle.item_catalog.specs.declared.deck.draft.settings.Setting.{Setting}
 
 -- A declaration: what the fields of a record say, by its tag.
 pub data Declaration : Type 0 where
-  Item : (id value rate : ℕ) → Declaration
-  Disk : (size : ℕ) (freq : Option ℕ) → Declaration
-  Update : (by : ℕ) (reads : List ℕ) (writes : List Write) → Declaration
-  Reader : (room age tries : ℕ) → Declaration
-  Query : (reader : ℕ) (items : List ℕ) → Declaration
-  Script : (events : List (Option ℕ)) → Declaration
-  Set : (setting : Setting) → Declaration
+  DeclaredItem : (id value rate : ℕ) → Declaration
+  DeclaredDisk : (size : ℕ) (freq : Option ℕ) → Declaration
+  DeclaredUpdate : (by : ℕ) (reads : List ℕ) (writes : List Write) → Declaration
+  DeclaredReader : (room age tries : ℕ) → Declaration
+  DeclaredQuery : (reader : ℕ) (items : List ℕ) → Declaration
+  DeclaredScript : (events : List (Option ℕ)) → Declaration
+  DeclaredSetting : (setting : Setting) → Declaration
 
 -- What the fields of an item's record spell, `item,<id>,<value>,<rate>`.
 abbrev pub item_by : Option (List ℕ × List ℕ × List ℕ) → Result Declaration FaultKind
@@ -36,7 +36,7 @@ item_by (Some f) = or_fault fault.Form (do
   id ← number_of f.0
   value ← number_of f.1
   rate ← number_of f.2
-  Some (Item id value rate))
+  Some (DeclaredItem id value rate))
 
 -- What the fields of a disk's record spell, `disk,<size>,<freq>`.
 abbrev pub disk_by : Option (List ℕ × List ℕ) → Result Declaration FaultKind
@@ -44,7 +44,7 @@ disk_by None = Err fault.Fields
 disk_by (Some f) = or_fault fault.Form (do
   size ← number_of f.0
   freq ← freq_of f.1
-  Some (Disk size freq))
+  Some (DeclaredDisk size freq))
 
 -- What the fields of an update's record spell, `update,<by>,<reads>,<writes>`.
 abbrev pub update_by : Option (List ℕ × List ℕ × List ℕ) → Result Declaration FaultKind
@@ -53,7 +53,7 @@ update_by (Some f) = or_fault fault.Form (do
   by ← number_of f.0
   reads ← list_of number_of f.1
   writes ← list_of spelled_write f.2
-  Some (Update by reads writes))
+  Some (DeclaredUpdate by reads writes))
 
 -- What the fields of a reader's record spell, `reader,<room>,<age>,<tries>`.
 abbrev pub reader_by : Option (List ℕ × List ℕ × List ℕ) → Result Declaration FaultKind
@@ -62,7 +62,7 @@ reader_by (Some f) = or_fault fault.Form (do
   room ← number_of f.0
   age ← number_of f.1
   tries ← number_of f.2
-  Some (Reader room age tries))
+  Some (DeclaredReader room age tries))
 
 -- What the fields of a query's record spell, `query,<reader>,<items>`.
 abbrev pub query_by : Option (List ℕ × List ℕ) → Result Declaration FaultKind
@@ -70,21 +70,21 @@ query_by None = Err fault.Fields
 query_by (Some f) = or_fault fault.Form (do
   reader ← number_of f.0
   items ← list_of number_of f.1
-  Some (Query reader items))
+  Some (DeclaredQuery reader items))
 
 -- What the field of a script's record spells, `script,<events>`.
 abbrev pub script_by : Option (List ℕ) → Result Declaration FaultKind
 script_by None = Err fault.Fields
 script_by (Some f) = or_fault fault.Form (do
   events ← list_of spelled_event f
-  Some (Script events))
+  Some (DeclaredScript events))
 
 -- What the fields of a setting's record spell, `set,<name>,<value>`.
 abbrev pub set_by : Option (List ℕ × List ℕ) → Result Declaration FaultKind
 set_by None = Err fault.Fields
 set_by (Some f) = or_fault fault.Setting (do
   setting ← setting_of f.0 f.1
-  Some (Set setting))
+  Some (DeclaredSetting setting))
 
 -- The tag of this name, if there is one.
 abbrev pub tag_of : List ℕ → Option Tag
@@ -111,4 +111,4 @@ declaration_by None fields = Err fault.Tag
 
 -- What a record spells, by its tag.
 abbrev pub spelled_declaration : List (List ℕ) → Result Declaration FaultKind
-spelled_declaration row = by_tag tag_of declaration_by row
+spelled_declaration fields = by_tag tag_of declaration_by fields

@@ -86,13 +86,13 @@ set_tests set setting =
 
 -- The kinds that a declaration may have after declarations, by rising kind, each with its test.
 abbrev pub tests_of : List Declaration → Declaration → List (FaultKind × Bool)
-tests_of before (e.Item id value rate) = item_tests (length (items_in before)) id rate
-tests_of before (e.Disk size freq) = disk_tests (length (disk_parts_in before)) size freq
-tests_of before (e.Update by reads writes) = update_tests (length (items_in before)) (count_updates before) by reads writes
-tests_of before (e.Reader room age tries) = reader_tests (length (readers_in before)) room age tries
-tests_of before (e.Query reader items) = query_tests (length (items_in before)) (length (readers_in before)) (count_queries before) reader items
-tests_of before (e.Script events) = script_tests (λ by. length (updates_in before by)) (script_in before) events
-tests_of before (e.Set setting) = set_tests (set_in before) setting
+tests_of before (e.DeclaredItem id value rate) = item_tests (length (items_in before)) id rate
+tests_of before (e.DeclaredDisk size freq) = disk_tests (length (disk_parts_in before)) size freq
+tests_of before (e.DeclaredUpdate by reads writes) = update_tests (length (items_in before)) (count_updates before) by reads writes
+tests_of before (e.DeclaredReader room age tries) = reader_tests (length (readers_in before)) room age tries
+tests_of before (e.DeclaredQuery reader items) = query_tests (length (items_in before)) (length (readers_in before)) (count_queries before) reader items
+tests_of before (e.DeclaredScript events) = script_tests (λ by. length (updates_in before by)) (script_in before) events
+tests_of before (e.DeclaredSetting setting) = set_tests (set_in before) setting
 
 -- The tests of the end after so many items, these disks and settings.
 abbrev pub end_tests : ℕ → List DiskPart → List Setting → List (FaultKind × Bool)
@@ -106,13 +106,13 @@ kinds_after before spelled = spelled_kinds deck_kind_number (tests_of before) sp
 
 -- The declarations that the records spell, without those that spell none.
 abbrev pub declarations_in : List (List (List ℕ)) → List Declaration
-declarations_in rows = filter_map (λ row. result_ok (spelled_declaration row)) rows
+declarations_in records = filter_map (λ fields. result_ok (spelled_declaration fields)) records
 
 -- The numbers of the kinds that apply to a record after declarations, and at the end, where there is no record.
 abbrev pub place_kinds : List Declaration → Option (List (List ℕ)) → List ℕ
-place_kinds before (Some row) = kinds_after before (spelled_declaration row)
+place_kinds before (Some fields) = kinds_after before (spelled_declaration fields)
 place_kinds before None = kinds_of deck_kind_number (end_tests (length (items_in before)) (disk_parts_in before) (set_in before))
 
 -- The numbers of the kinds that apply at a place, counted from 0: to the record there, after all records before it, or at the end.
 unfoldable pub kinds_at : List (List (List ℕ)) → ℕ → List ℕ
-kinds_at rows place = place_kinds (declarations_in (take place rows)) (slice_get rows place)
+kinds_at records place = place_kinds (declarations_in (take place records)) (slice_get records place)

@@ -6,7 +6,7 @@ pub mod Declarations
 pub mod Parts
 pub mod Decks
 pub mod DeckLimits
-pub mod DeckView
+pub mod DeckFields
 pub mod Faults
 pub mod Grammar
 pub mod Private
@@ -14,10 +14,11 @@ pub mod Writes
 pub mod ListTests
 pub mod KeptLists
 pub mod Records
-pub mod RecordsView
+pub mod RecordsLeft
 pub mod RecordFields
 pub mod Spelled
 pub mod Tags
 pub mod RecordKinds
 pub mod FirstFaults
 pub mod DeckTexts
+pub mod ReadAnswers

@@ -11,7 +11,7 @@ use Rattle.item_catalog.specs.declared.deck.draft.settings.Setting.{Setting}
 
 -- The item that a declaration declares, with its value and rate; its id is its place.
 abbrev pub its_item : Declaration → Option ItemPart
-its_item (e.Item id value rate) = Some (record { value = value; rate = rate })
+its_item (e.DeclaredItem id value rate) = Some (record { value = value; rate = rate })
 its_item declaration = None
 
 -- All items, in order.
@@ -20,7 +20,7 @@ items_in declarations = filter_map its_item declarations
 
 -- The disk that a declaration declares, with its frequency where a number is said.
 abbrev pub its_disk : Declaration → Option DiskPart
-its_disk (e.Disk size freq) = Some (record { size = size; freq = freq })
+its_disk (e.DeclaredDisk size freq) = Some (record { size = size; freq = freq })
 its_disk declaration = None
 
 -- All disks, in order.
@@ -29,7 +29,7 @@ disk_parts_in declarations = filter_map its_disk declarations
 
 -- The update that a declaration gives the updater.
 abbrev pub its_update : ℕ → Declaration → Option UpdateLists
-its_update who (e.Update by reads writes) = if by == who then Some (record { reads = reads; writes = writes }) else None
+its_update who (e.DeclaredUpdate by reads writes) = if by == who then Some (record { reads = reads; writes = writes }) else None
 its_update who declaration = None
 
 -- All updates of the updater, in order.
@@ -38,7 +38,7 @@ updates_in declarations who = filter_map (its_update who) declarations
 
 -- The declaration is an update.
 abbrev pub is_update : Declaration → Bool
-is_update (e.Update by reads writes) = true
+is_update (e.DeclaredUpdate by reads writes) = true
 is_update declaration = false
 
 -- How many declarations are updates, whoever makes them.
@@ -52,7 +52,7 @@ greatest_number (n ∷ ns) = max n (greatest_number ns)
 
 -- How many updaters a declaration asks for: one more than the one that it names, or 0.
 abbrev pub its_updaters : Declaration → ℕ
-its_updaters (e.Update by reads writes) = by + 1
+its_updaters (e.DeclaredUpdate by reads writes) = by + 1
 its_updaters declaration = 0
 
 -- How many updaters there are.
@@ -61,7 +61,7 @@ updaters_in declarations = greatest_number (map its_updaters declarations)
 
 -- The reader that a declaration declares.
 abbrev pub its_reader : Declaration → Option ReaderPlan
-its_reader (e.Reader room age tries) = Some (record { room = room; age = age; tries = tries })
+its_reader (e.DeclaredReader room age tries) = Some (record { room = room; age = age; tries = tries })
 its_reader declaration = None
 
 -- All readers, in order.
@@ -70,7 +70,7 @@ readers_in declarations = filter_map its_reader declarations
 
 -- The query that a declaration gives the reader.
 abbrev pub its_query : ℕ → Declaration → Option (List ℕ)
-its_query who (e.Query reader items) = if reader == who then Some items else None
+its_query who (e.DeclaredQuery reader items) = if reader == who then Some items else None
 its_query who declaration = None
 
 -- All queries of the reader, in order.
@@ -79,7 +79,7 @@ queries_in declarations who = filter_map (its_query who) declarations
 
 -- The declaration is a query.
 abbrev pub is_query : Declaration → Bool
-is_query (e.Query reader items) = true
+is_query (e.DeclaredQuery reader items) = true
 is_query declaration = false
 
 -- How many declarations are queries, whoever asks them.
@@ -88,7 +88,7 @@ count_queries declarations = count_by is_query declarations
 
 -- The events of a script's record: a commit of the updater with the number, or a start where there is none.
 abbrev pub its_events : Declaration → List (Option ℕ)
-its_events (e.Script events) = events
+its_events (e.DeclaredScript events) = events
 its_events declaration = []
 
 -- The whole script.
@@ -97,7 +97,7 @@ script_in declarations = flat_map its_events declarations
 
 -- The setting that a declaration makes.
 abbrev pub its_setting : Declaration → Option Setting
-its_setting (e.Set setting) = Some setting
+its_setting (e.DeclaredSetting setting) = Some setting
 its_setting declaration = None
 
 -- All settings, in order.

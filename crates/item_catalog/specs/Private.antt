@@ -1,8 +1,7 @@
 -- Definitions that private steps alone speak of: no public contract cites them, nor what a public type shows.
 pub mod ListKinds
 pub mod Drafts
-pub mod DraftView
+pub mod DraftFields
 pub mod ReadEnds
-pub mod ScriptView
+pub mod ScriptFields
 pub mod WriteParts
-pub mod ReadAnswers

@@ -1,13 +1,12 @@
 -- Settings: which name and value a record may give one, and what all settings are where some were set.
 use Rattle.std.specs.Prelude.{◌-◌, ◌^◌, ℕ, Bool, true, false, List, [], ◌∷◌, Option, Some, None, find, option_map, unwrap_or, codes, if◌then◌else◌}
-use Rattle.air_base.specs.declared.limits.TheConstants.{DEFAULT_CYCLES, DEFAULT_HEARS, MOST_CYCLES, MOST_DELTA, MOST_HEARS, MOST_MONITORS, MOST_SHARE}
+use Rattle.air_base.specs.declared.limits.TheConstants.{DEFAULT_CYCLES, DEFAULT_HEARS, MOST_CYCLES, MOST_DELTA, MOST_HEARS, MOST_MONITORS, MOST_SHARE, NEWEST_VERSION}
 use Rattle.air_base.specs.Numbers.{number_of}
 use Rattle.air_base.specs.declared.verdicts.Policy.{Policy}
 use Rattle.air_base.specs.declared.verdicts.Policy.TheVariants.{FMatrix, Datacycle, RMatrix}
 use Rattle.air_model.specs.declared.deck.Settings.{Settings}
 use Rattle.item_catalog.specs.Ranges.{outside}
 use Rattle.item_catalog.specs.RecordFields.{◌is◌}
-use Rattle.item_catalog.specs.declared.deck.draft.settings.TheConstants.{NEWEST_VERSION}
 use Rattle.item_catalog.specs.declared.deck.draft.settings.Name.{Name}
 use Rattle.item_catalog.specs.declared.deck.draft.settings.Name.TheVariants.{Delta, Version, Cycles, Seed, Loss, Again, Late, Monitors, Hears}
 use Rattle.item_catalog.specs.declared.deck.draft.settings.Setting.{Setting}

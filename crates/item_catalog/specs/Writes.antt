@@ -1,7 +1,7 @@
 -- Which write a text spells.
 use Rattle.std.specs.Prelude.{ℕ, List, Bool, true, false, Option, Some, None}
 use Rattle.air_base.specs.Numbers.{number_of}
-use Rattle.air_base.specs.Pieces.{cut_at, two_of}
+use Rattle.air_base.specs.Parts.{parts_at, two_of}
 use Rattle.air_history.specs.declared.updates.Write.{Write}
 
 -- The write of an amount to an item.
@@ -22,7 +22,7 @@ write_by item None None value = constant item (number_of value)
 
 -- The write of a value to an item.
 unfoldable pub spelled_value_write : Option ℕ → List ℕ → Option Write
-spelled_value_write item value = write_by item (two_of (cut_at 43 value)) (two_of (cut_at 45 value)) value
+spelled_value_write item value = write_by item (two_of (parts_at 43 value)) (two_of (parts_at 45 value)) value
 
 -- The write of the two sides of an `=`.
 abbrev pub write_from : Option (List ℕ × List ℕ) → Option Write
@@ -31,4 +31,4 @@ write_from (Some sides) = spelled_value_write (number_of sides.0) sides.1
 
 -- A write: `<item>=<amount>`, `<item>=<base>+<amount>` or `<item>=<base>-<amount>`.
 unfoldable pub spelled_write : List ℕ → Option Write
-spelled_write text = write_from (two_of (cut_at 61 text))
+spelled_write text = write_from (two_of (parts_at 61 text))

@@ -29,7 +29,7 @@ pub struct Deck {
 
 impl Model for Deck {
     ghost use Rattle.air_model.specs.Decks.{Deck};
-    ghost use Rattle.item_catalog.specs.DeckView.{deck_seen, DeckKept};
+    ghost use Rattle.item_catalog.specs.DeckFields.{deck_seen, DeckKept};
 
     ghost Value = { Deck };
 

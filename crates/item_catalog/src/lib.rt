@@ -17,10 +17,9 @@ mod scripts;
 mod updates;
 
 pub use deck::Deck;
-pub use deck::draft::settings::NEWEST_VERSION;
 pub use deck::drill::{MOST_DRILL_SIZE, drill_deck};
 pub use drills::draws::{draw_item, draw_query, draw_update};
-pub use drills::plans::drill_settings;
+pub use drills::settings::drill_settings;
 pub use faults::{DeckError, DeckFault};
 pub use laws::{
     deck_or_fault_law, drill_law, not_both_law, one_deck_law, one_fault_law, well_made_law,

@@ -54,10 +54,10 @@ fn tag_of(text: &[u8]) -> Option<Tag>
 }
 
 /// The tag of a record.
-pub(crate) fn read_tag(row: &ByteRecord) -> Option<Tag>
-    ensures { spelled_declaration (fields_of row.now) ≡ declaration_by result (drop 1 (fields_of row.now)) }
+pub(crate) fn read_tag(fields: &ByteRecord) -> Option<Tag>
+    ensures { spelled_declaration (fields_of fields.now) ≡ declaration_by result (drop 1 (fields_of fields.now)) }
 {
-    match row.get(0) {
+    match fields.get(0) {
         Some(text) => tag_of(text),
         None => None,
     }

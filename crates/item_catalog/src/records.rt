@@ -2,7 +2,7 @@
 //!
 //! A reader is seen as the records that it has still to give.
 
-ghost use Rattle.std.specs.Prelude.{◌≡◌, ◌∷◌, [], MatchResult, if◌then◌else◌};
+ghost use Rattle.std.specs.Prelude.{◌≡◌, ◌∷◌, [], false, IfOk, MatchResult, if◌then◌else◌};
 ghost use Rattle.csv.specs.Records.{fields_of};
 ghost use Rattle.item_catalog.specs.Records.{records_of};
 
@@ -23,7 +23,7 @@ pub struct Records<'a> {
 
 impl<'a> Model for Records<'a> {
     ghost use Rattle.std.specs.Prelude.{List, ℕ};
-    ghost use Rattle.item_catalog.specs.RecordsView.{RecordsKept, records_seen};
+    ghost use Rattle.item_catalog.specs.RecordsLeft.{RecordsKept, records_seen};
 
     ghost Value = { List (List (List ℕ)) };
 
@@ -46,18 +46,20 @@ impl<'a> Records<'a> {
         }
     }
 
-    /// Takes the next record, and answers whether there is one. Out of memory the row has no field.
-    pub fn next(&mut self, row: &mut ByteRecord) -> Result<bool, NoMemory>
-        ensures { MatchResult result (λ found. self.old ≡ (if found then fields_of row.new ∷ self.new else [])) (λ _. (self.new ≡ []) × (fields_of row.new ≡ [])) }
+    /// Takes the next record, and answers whether there is one. Out of memory there are no fields, and no later call gives one.
+    pub fn next(&mut self, fields: &mut ByteRecord) -> Result<bool, NoMemory>
+        ensures taken { MatchResult result (λ found. self.old ≡ (if found then fields_of fields.new ∷ self.new else [])) (λ _. (self.new ≡ []) × (fields_of fields.new ≡ [])) }
+        ensures ended { IfOk result (λ found. found ≡ false → self.new ≡ []) }
     {
         if self.has_ended {
             return Ok(false);
         }
-        let Ok(found) = self.reader.read_byte_record(row) else {
+        let Ok(found) = self.reader.read_byte_record(fields) else {
             self.has_ended = true;
-            row.clear();
+            fields.clear();
             return Err(NoMemory);
         };
+        self.has_ended = !found;
         Ok(found)
     }
 }

@@ -4,12 +4,12 @@
 //! counted along, so that no record of the script is looked at again.
 
 ghost use Rattle.std.specs.Prelude.{◌≡◌, ◌<◌, ◌≤◌, ◌++◌, ◌∷◌, ◌||◌, [], IfOk, OnOk, Some, None, get_or, length, nat_lt, option_map, false};
-ghost use Rattle.air_base.specs.LeadingParts.{FrontIs};
+ghost use Rattle.air_base.specs.LeadingParts.{LeadingIs};
 ghost use Rattle.air_base.specs.NumberLists.{list_of};
 ghost use Rattle.air_model.specs.Decks.{count_parts};
 ghost use Rattle.item_catalog.specs.Fields.{spelled_event};
 ghost use Rattle.item_catalog.specs.Faults.{count_starts, script_passes, some_below};
-ghost use Rattle.item_catalog.specs.Private.ScriptView.{EventsRead, begins_start};
+ghost use Rattle.item_catalog.specs.Private.ScriptFields.{EventsRead, begins_start};
 
 use crate::parts::Updates;
 use air_base::limits::{MOST_EVENTS, MOST_STARTS, MOST_UPDATERS};
@@ -27,7 +27,7 @@ pub struct Script {
 
 impl Model for Script {
     ghost use Rattle.std.specs.Prelude.{List, Option, ℕ};
-    ghost use Rattle.item_catalog.specs.Private.ScriptView.{ScriptKept};
+    ghost use Rattle.item_catalog.specs.Private.ScriptFields.{ScriptKept};
 
     ghost Value = { List (Option ℕ) };
 
@@ -157,9 +157,9 @@ fn begins_start(text: &[u8]) -> bool
 }
 
 /// The event that the first part spells: none is a start.
-#[tactic(auto, using(crate::proofs::EventFronts::event_start, crate::proofs::EventFronts::event_number, crate::proofs::EventFronts::start_after))]
+#[tactic(auto, using(crate::proofs::LeadingEventLemmas::event_start, crate::proofs::LeadingEventLemmas::event_number, crate::proofs::LeadingEventLemmas::start_after))]
 fn leading_event(text: &[u8]) -> Option<(Option<u64>, &[u8])>
-    ensures { FrontIs spelled_event text.now (option_map (λ f. (f.0, f.1.now)) result) }
+    ensures { LeadingIs spelled_event text.now (option_map (λ f. (f.0, f.1.now)) result) }
 {
     if begins_start(text) {
         return Some((None, &text[1..]));

@@ -7,7 +7,7 @@ ghost use Rattle.std.specs.Result.{result_ok};
 ghost use Rattle.air_model.specs.Buckets.{IsInRange};
 ghost use Rattle.air_model.specs.Reports.{line_by};
 ghost use Rattle.receiver_core.specs.Receivers.{heard_count};
-ghost use Rattle.listeners.specs.Listeners.{ChangesNoAttempt, end_state, hears, hears_one, listener_of};
+ghost use Rattle.listeners.specs.Listeners.{ChangesNoAttempt, end_state, hears_one, listener_of};
 ghost use Rattle.listeners.specs.Private.Endings.{lines_and_counts};
 
 use crate::readers::Sessions;

@@ -23,7 +23,7 @@ use Rattle.air_model.proofs.SessionExamples.{pair}
 use Rattle.air_report.specs.LineTexts.{short_of, spelled_item, spelled_place, spelled_read}
 use Rattle.air_report.specs.ReadReports.{IsReportOf}
 use Rattle.air_report.specs.LineFaults.{line_kinds_at}
-use Rattle.air_report.specs.LineGrammar.{HasLineFault, RowsSpellLines, SpellsLines}
+use Rattle.air_report.specs.LineGrammar.{HasLineFault, RecordsSpellLines, SpellsLines}
 use Rattle.air_report.specs.ReportGrammar.{HasReportFault}
 use Rattle.air_report.specs.ReportLines.{lines_in}
 use Rattle.air_report.specs.declared.reading.ReadReport.{ReadReport}
@@ -115,7 +115,7 @@ no_kind (suc (suc (suc (suc (suc (suc (suc (suc (suc (suc zero)))))))))) below =
 no_kind (suc (suc (suc (suc (suc (suc (suc (suc (suc (suc (suc zero))))))))))) below = refl
 no_kind (suc (suc (suc (suc (suc (suc (suc (suc (suc (suc (suc (suc place)))))))))))) below = absurd (omega arith)
 
-rows_spell : RowsSpellLines small rows (lines_in report)
+rows_spell : RecordsSpellLines small rows (lines_in report)
 unfolding spelled_read spelled_place spelled_item short_of number_of all_some
 rows_spell = record { faultless = no_kind; sections = refl }
 

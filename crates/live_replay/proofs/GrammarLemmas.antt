@@ -18,7 +18,7 @@ use Rattle.air_model.specs.Reports.{Report}
 use Rattle.air_model.specs.declared.reports.VerdictLine.{VerdictLine}
 use Rattle.air_report.specs.LineFaults.{end_begun, follow, has_begun, leads, read_item}
 use Rattle.air_report.specs.ReportLines.{lines_in, starts_in}
-use Rattle.air_report.specs.declared.reading.lines.Line.TheVariants as l
+use Rattle.air_report.specs.declared.reading.lines.ReportLine.TheVariants as l
 use Rattle.air_report.specs.LineRules.{InGrammar, IsRight}
 use Rattle.air_report.proofs.PrintedGrammar.{starts_of}
 use Rattle.live_replay.specs.Findings.{place_of_line, places_of}

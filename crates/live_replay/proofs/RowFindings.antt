@@ -6,8 +6,8 @@ use Rattle.item_catalog.specs.Records.{records_of}
 use Rattle.air_model.specs.Decks.{Deck}
 use Rattle.air_report.specs.LineTexts.{spelled_line}
 use Rattle.air_report.specs.ReportLines.{ReportLines, its_line, lines_in}
-use Rattle.air_report.specs.declared.reading.lines.Line.{Line}
-use Rattle.air_report.specs.declared.reading.lines.Line.TheVariants as l
+use Rattle.air_report.specs.declared.reading.lines.ReportLine.{ReportLine}
+use Rattle.air_report.specs.declared.reading.lines.ReportLine.TheVariants as l
 use Rattle.air_report.specs.ReadReports.{IsReportOf}
 use Rattle.air_report.specs.declared.reading.ReadReport.{ReadReport}
 use Rattle.air_report.proofs.LineRows.{all_of, by_records, by_sections, each, nothing}
@@ -38,13 +38,13 @@ module _ (deck : Deck) (text : List ℕ) (read : ReadReport) (is : IsReportOf de
   abbrev lines : ReportLines
   lines = lines_in read.report
 
-  abbrev told : ℕ → Line → Option Finding
+  abbrev told : ℕ → ReportLine → Option Finding
   told row line = finding_of deck read.report.history row line
 
   events : length read.report.history ≡ length lines.events
   events = sym (length-map read.report.history its_line)
 
-  section : {L : Type 0} (wrap : L → Line) (cause : L → Option Cause) (rows : List ℕ) (n : ℕ) (xs : List L) →
+  section : {L : Type 0} (wrap : L → ReportLine) (cause : L → Option Cause) (rows : List ℕ) (n : ℕ) (xs : List L) →
       ((row : ℕ) (x : L) → told row (wrap x) ≡ Some (record { row = row; differs = cause x })) → rows ≡ range_with_len n (length xs) →
       all_of told n (map wrap xs) ≡ found_in cause rows xs
   section wrap cause rows n xs some here =

@@ -22,7 +22,7 @@ use Rattle.air_model.specs.Sessions.{abort, accept_if_whole, copy_of, count_copi
 use Rattle.air_model.specs.declared.reports.LookLine.{LookLine}
 use Rattle.air_model.proofs.SessionExamples.{pair, s, swapped_deck, u}
 use Rattle.air_report.specs.declared.reading.lines.EventLine.TheVariants as line
-use Rattle.air_report.specs.declared.reading.lines.Line.TheVariants as l
+use Rattle.air_report.specs.declared.reading.lines.ReportLine.TheVariants as l
 use Rattle.live_replay.specs.Audits.{found_in, replayed_in}
 use Rattle.live_replay.specs.FindingLaws.{EndsSo, SpansSo}
 use Rattle.live_replay.specs.FindingTexts.{audited_row, cause_word, differs, finding_row, findings_text, row_of, some_differ}

@@ -8,14 +8,14 @@ use Rattle.air_model.specs.Decks.{Deck, values_in}
 use Rattle.air_model.specs.Judges.{by_history}
 use Rattle.air_model.specs.ReceiverLaws.{session_of}
 use Rattle.air_model.specs.Sessions.{State}
-use Rattle.air_report.specs.declared.reading.kinds.FaultKind.{FaultKind}
-use Rattle.air_report.specs.declared.reading.lines.Line.{Line}
-use Rattle.air_report.specs.declared.reading.lines.Line.TheVariants.{Counts, Event as AnEvent, Glance, Look, Verdict}
+use Rattle.air_report.specs.declared.reading.kinds.ReportFaultKind.{ReportFaultKind}
+use Rattle.air_report.specs.declared.reading.lines.ReportLine.{ReportLine}
+use Rattle.air_report.specs.declared.reading.lines.ReportLine.TheVariants.{Counts, Event as AnEvent, Glance, Look, Verdict}
 use Rattle.live_replay.specs.declared.findings.Finding.{Finding}
 use Rattle.live_replay.specs.Findings.{look_cause, verdict_cause}
 
 -- What is found of a line in a row: of an event and of counts nothing.
-abbrev pub finding_of : Deck → List Event → ℕ → Line → Option Finding
+abbrev pub finding_of : Deck → List Event → ℕ → ReportLine → Option Finding
 finding_of deck H row (AnEvent line) = None
 finding_of deck H row (Verdict line) = Some (record { row = row; differs = verdict_cause deck H line })
 finding_of deck H row (Counts line) = None
@@ -23,7 +23,7 @@ finding_of deck H row (Glance line) = Some (record { row = row; differs = look_c
 finding_of deck H row (Look line) = Some (record { row = row; differs = look_cause deck H line })
 
 -- What is found of what a record spells.
-abbrev pub spelled_finding : Deck → List Event → ℕ → Result Line FaultKind → Option Finding
+abbrev pub spelled_finding : Deck → List Event → ℕ → Result ReportLine ReportFaultKind → Option Finding
 spelled_finding deck H row (Ok line) = finding_of deck H row line
 spelled_finding deck H row (Err kind) = None
 

@@ -6,7 +6,7 @@
 ghost use Rattle.std.specs.Prelude.{◌≡◌, ◌<◌, None};
 ghost use Rattle.std.specs.Thread.{IsSync};
 ghost use Rattle.air_devices.specs.Masts.{nothing_sent};
-ghost use Rattle.air_devices.specs.Told.{WhereTold};
+ghost use Rattle.air_devices.specs.WhatIsTold.{WhereTold};
 
 use air_base::NoMemory;
 use air_cli::air_main;

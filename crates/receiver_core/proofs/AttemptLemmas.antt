@@ -4,7 +4,7 @@ use Rattle.std.proofs.lemmas.List.{length_push, map-append}
 use Rattle.std.proofs.lemmas.Simd.{map-map}
 use Rattle.air_base.specs.declared.verdicts.ReadOf.{ReadOf}
 use Rattle.air_base.specs.declared.verdicts.Policy.{Policy}
-use Rattle.air_history.specs.Clashes.{Heard, clash_by_entries, is_late, read_at}
+use Rattle.air_history.specs.Clashes.{HeardRead, clash_by_entries, is_late, read_at}
 use Rattle.air_history.specs.Reads.{ReadAt}
 use Rattle.air_history.specs.Columns.{scheme_of}
 use Rattle.air_model.specs.Judges.{by_entries, heard_of, place_of}
@@ -12,24 +12,24 @@ use Rattle.air_model.specs.Reads.{Read}
 use Rattle.air_model.specs.SessionLaws.{are_far}
 use Rattle.air_history.specs.HeldReads.{HeldReads, IsNew}
 use Rattle.receiver_core.specs.Private.Attempts.{HeldValues, columns_of, line_read}
-use Rattle.receiver_core.specs.Private.AttemptView.{KeepsBoth, held_values, with_values}
+use Rattle.receiver_core.specs.Private.AttemptFields.{KeepsBoth, held_values, with_values}
 use Rattle.receiver_core.specs.declared.attempts.Attempt.TheInside.{Inside}
 
 pub nothing_held : (V : List ReadOf) → with_values [] V ≡ []
 unfolding with_values
 nothing_held V = refl
 
-heard_from : (R : List Heard) (V : List ReadOf) → length V ≡ length R → map heard_of (with_values R V) ≡ R
+heard_from : (R : List HeardRead) (V : List ReadOf) → length V ≡ length R → map heard_of (with_values R V) ≡ R
 unfolding with_values
 heard_from [] V e = refl
 heard_from (h ∷ R) [] e = absurd (omega arith)
 heard_from (h ∷ R) (v ∷ V) e = ap (λ S. h ∷ S) (heard_from R V (omega arith))
 
 -- The read with both parts.
-abbrev both_parts : Heard → ReadOf → Read
+abbrev both_parts : HeardRead → ReadOf → Read
 both_parts h v = record { item = h.item; cycle = h.cycle; value = v.value; entries = h.entries }
 
-with_values-push : (R : List Heard) (V : List ReadOf) (h : Heard) (v : ReadOf) → length V ≡ length R →
+with_values-push : (R : List HeardRead) (V : List ReadOf) (h : HeardRead) (v : ReadOf) → length V ≡ length R →
     with_values (R ++ h ∷ []) (V ++ v ∷ []) ≡ with_values R V ++ both_parts h v ∷ []
 unfolding with_values
 with_values-push [] [] h v e = refl

@@ -5,7 +5,7 @@ use Rattle.std.proofs.lemmas.List.{get_or_default}
 use Rattle.air_model.specs.Aired.{Air, body_fits, fits}
 use Rattle.air_model.specs.Buckets.{Body, Bucket, Idle, Column, Vector, count_of, item_of, kind_of}
 use Rattle.receiver_core.specs.declared.airs.Air.TheInside.{Inside}
-use Rattle.receiver_core.specs.Private.AirView.{air_in}
+use Rattle.receiver_core.specs.Private.AirFields.{air_in}
 use Rattle.receiver_core.specs.Private.SlotKinds.{kind_fits}
 
 and_false : (b : Bool) → (b && false) ≡ false

@@ -17,7 +17,7 @@ use Rattle.air_model.specs.Sessions.{Reader, wanted}
 use Rattle.pix_cache.specs.Caches.{Cache}
 use Rattle.receiver_core.specs.Private.Attempts.{HeldValues}
 use Rattle.receiver_core.specs.Private.Offers.{without_clash}
-use Rattle.receiver_core.specs.ReceiverView.{CopiesFew, HoldsFirst, IsCacheOf, IsReceiver, IsWholeRead, receiver_in}
+use Rattle.receiver_core.specs.ReceiverFields.{CopiesFew, HoldsFirst, IsCacheOf, IsReceiver, IsWholeRead, receiver_in}
 use Rattle.receiver_core.specs.declared.receivers.Receiver.TheInside.{Inside}
 use Rattle.receiver_core.proofs.OpenLemmas.{at_hand, wanted_at}
 use Rattle.receiver_core.proofs.StateLemmas.{left}

@@ -23,7 +23,7 @@ use Rattle.receiver_core.specs.Private.Attempts.{HeldValues, columns_of, read, r
 use Rattle.receiver_core.specs.Private.Offers.{without_clash}
 use Rattle.receiver_core.specs.LastReads.{in_state}
 use Rattle.receiver_core.specs.Receivers.{Receiver}
-use Rattle.receiver_core.specs.ReceiverView.{IsReceiver, IsWholeRead, receiver_in}
+use Rattle.receiver_core.specs.ReceiverFields.{IsReceiver, IsWholeRead, receiver_in}
 use Rattle.receiver_core.specs.declared.receivers.Receiver.TheInside.{Inside}
 use Rattle.receiver_core.proofs.StateLemmas.{left}
 use Rattle.receiver_core.proofs.WordLemmas.{open_aged, open_clash, open_clear, with_opened}

@@ -18,7 +18,7 @@ use Rattle.pix_cache.specs.Caches.{Cache}
 use Rattle.receiver_core.specs.LinesGiven.{lines_given, lines_of}
 use Rattle.receiver_core.specs.LastReads.{in_state, last_reads}
 use Rattle.receiver_core.specs.Receivers.{IsSettled, Receiver, heard_count, state_after_step, steps_left}
-use Rattle.receiver_core.specs.ReceiverView.{receiver_in}
+use Rattle.receiver_core.specs.ReceiverFields.{receiver_in}
 use Rattle.receiver_core.specs.declared.receivers.Receiver.TheInside.{Inside}
 use Rattle.receiver_core.specs.declared.receivers.Step.{Step}
 use Rattle.receiver_core.specs.declared.receivers.Step.TheVariants as given

@@ -22,7 +22,7 @@ use Rattle.receiver_core.specs.LastReads.{in_state, last_reads}
 use Rattle.receiver_core.specs.LinesGiven.{lines_of}
 use Rattle.receiver_core.specs.Receivers.{Receiver}
 use Rattle.receiver_core.specs.ReceiverSteps.{step}
-use Rattle.receiver_core.specs.ReceiverView.{IsReceiver, IsWholeRead, receiver_in}
+use Rattle.receiver_core.specs.ReceiverFields.{IsReceiver, IsWholeRead, receiver_in}
 use Rattle.receiver_core.specs.Private.Attempts.{HeldValues}
 use Rattle.receiver_core.specs.Private.Turns.{uses_copy}
 use Rattle.receiver_core.specs.declared.receivers.Receiver.TheInside.{Inside}

@@ -8,7 +8,7 @@ use Rattle.air_history.specs.UpdateRules.{has_repeat}
 use Rattle.air_model.specs.Reads.{Read}
 use Rattle.air_model.specs.Sessions.{Reader, State, query_of, wanted}
 use Rattle.receiver_core.specs.HeldTruths.{first_unheld}
-use Rattle.receiver_core.specs.ReaderView.{AreDistinct}
+use Rattle.receiver_core.specs.ReaderFields.{AreDistinct}
 use Rattle.receiver_core.proofs.OpenLemmas.{before_differ}
 
 -- No query has an item twice, and where none is left there is no item.

@@ -1,9 +1,9 @@
-pub mod ReaderView
+pub mod ReaderFields
 pub mod ReceiverSteps
 pub mod Receivers
 pub mod LinesGiven
 pub mod LastReads
 pub mod FeedAnswers
 pub mod HeldTruths
-pub mod ReceiverView
+pub mod ReceiverFields
 pub mod Private

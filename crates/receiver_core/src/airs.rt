@@ -2,7 +2,7 @@
 //!
 //! A deck is plain so far: all its cycles have one program.
 
-ghost use Rattle.std.specs.Prelude.{◌≡◌, ◌<◌, ◌≤◌, ℕ, List, length, map, IfOk};
+ghost use Rattle.std.specs.Prelude.{◌≡◌, ◌<◌, ◌≤◌, ℕ, length, map, IfOk};
 ghost use Rattle.std.specs.List.{enumerate_from};
 ghost use Rattle.air_base.specs.declared.limits.TheConstants.{MOST_ITEMS};
 ghost use Rattle.air_model.specs.Buckets.{item_of, kind_of};
@@ -33,7 +33,7 @@ impl Model for Air {
 
     ghost Value = { Air };
 
-    ghost use Rattle.receiver_core.specs.Private.AirView.{air_in};
+    ghost use Rattle.receiver_core.specs.Private.AirFields.{air_in};
 
     ghost view = { air_in };
 }

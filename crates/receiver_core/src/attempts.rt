@@ -31,7 +31,7 @@ impl Model for Attempt {
 
     ghost Value = { HeldValues };
 
-    ghost use Rattle.receiver_core.specs.Private.AttemptView.{KeepsBoth, held_values};
+    ghost use Rattle.receiver_core.specs.Private.AttemptFields.{KeepsBoth, held_values};
 
     ghost view = { held_values };
 

@@ -3,7 +3,7 @@
 ghost use Rattle.std.specs.Prelude.{◌≡◌, ◌↔◌, ◌<◌, ◌≤◌, [], get_or, length, map, slice_get, IfOk, IsTrue};
 ghost use Rattle.air_model.specs.Sessions.{reader_of};
 ghost use Rattle.air_base.specs.declared.limits.TheConstants.{MOST_ROOM, MOST_TRIES};
-ghost use Rattle.receiver_core.specs.ReaderView.{AreDistinct, AreWithin, HasFewQueries};
+ghost use Rattle.receiver_core.specs.ReaderFields.{AreDistinct, AreWithin, HasFewQueries};
 
 use air_base::NoMemory;
 use air_model::deck::ReaderPlan;
@@ -23,7 +23,7 @@ impl Model for Reader {
 
     ghost Value = { Reader };
 
-    ghost use Rattle.receiver_core.specs.ReaderView.{reader_in};
+    ghost use Rattle.receiver_core.specs.ReaderFields.{reader_in};
 
     ghost view = { reader_in };
 }

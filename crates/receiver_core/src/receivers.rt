@@ -78,7 +78,7 @@ impl Model for Receiver {
 
     ghost Value = { Receiver };
 
-    ghost use Rattle.receiver_core.specs.ReceiverView.{IsReceiver, receiver_in};
+    ghost use Rattle.receiver_core.specs.ReceiverFields.{IsReceiver, receiver_in};
 
     ghost view = { receiver_in };
 

@@ -14,7 +14,7 @@ use std::mem;
 
 /// The lines so far, and the reads of the next verdict.
 #[derive(Drop)]
-pub struct Draft {
+pub struct CaseReport {
     events: Vec<Event>,
     reads: Vec<ReadOf>,
     verdicts: Vec<VerdictLine>,
@@ -100,10 +100,10 @@ fn history_of(events: Vec<Event>) -> Option<History> {
     Some(History::from_events(events))
 }
 
-impl Draft {
+impl CaseReport {
     /// No line.
-    pub fn new(alloc: Global) -> Draft {
-        Draft {
+    pub fn new(alloc: Global) -> CaseReport {
+        CaseReport {
             events: Vec::new(alloc),
             reads: Vec::new(alloc),
             verdicts: Vec::new(alloc),
@@ -158,7 +158,7 @@ impl Draft {
         parts: &mut Parts<'_>,
         came: &mut Vec<u8>,
     ) -> Result<(), NoMemory> {
-        let draft = mem::replace(self, Draft::new(alloc));
+        let draft = mem::replace(self, CaseReport::new(alloc));
         let Some(history) = history_of(draft.events) else {
             parts.refuse(BadCase::NoCall);
             return Ok(());

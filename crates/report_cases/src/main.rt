@@ -11,7 +11,7 @@ mod lines;
 mod reports;
 mod texts;
 
-use crate::drafts::Draft;
+use crate::drafts::CaseReport;
 use crate::reports::ask;
 use air_base::NoMemory;
 use air_base::limits::MOST_DECK_BYTES;
@@ -25,7 +25,7 @@ use std::io;
 struct ReportPlayer {
     front: Vec<u8>,
     deck: Option<Deck>,
-    draft: Draft,
+    draft: CaseReport,
 }
 
 impl ReportPlayer {
@@ -107,7 +107,7 @@ fn main(rt: HostRuntime) -> io::Result<()> {
     let mut player = ReportPlayer {
         front: Vec::new(rt.alloc()),
         deck: None,
-        draft: Draft::new(rt.alloc()),
+        draft: CaseReport::new(rt.alloc()),
     };
     play_stdin(&rt, &mut player)
 }

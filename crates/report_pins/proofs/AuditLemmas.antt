@@ -33,10 +33,10 @@ use Rattle.air_report.proofs.TiedReports.{one_fault, report_or_fault, told_fault
 use Rattle.live_replay.proofs.AuditLemmas.{one_report}
 use Rattle.text_pins.proofs.PlaceLemmas.{first_fault, none_before_0}
 use Rattle.report_pins.proofs.ReadLemmas.{history_read, lines_read, rows_told}
-use Rattle.report_pins.specs.SmallDeck.{line, small_deck, two_looks}
+use Rattle.report_pins.specs.SmallDeck.{small_deck, text_line, two_looks}
 use Rattle.report_pins.specs.SmallReports.{found}
 
-pub text_of_findings : findings_text (found 5 None ∷ found 6 (Some Clash) ∷ []) ≡ line (codes "agrees,5") ++ line (codes "differs,6,clash") ++ line (codes "audited,2,1")
+pub text_of_findings : findings_text (found 5 None ∷ found 6 (Some Clash) ∷ []) ≡ text_line (codes "agrees,5") ++ text_line (codes "differs,6,clash") ++ text_line (codes "audited,2,1")
 unfolding findings_text rows_text number_text fields_text is_blank
 text_of_findings = refl
 
@@ -74,14 +74,14 @@ looks_found : findings small_deck (made (e.Start ∷ []) two_lines [] [] (2 ∷ 
 unfolding findings look_cause total_at is_start front table value_after write_of value_on_base
 looks_found = refl
 
-looks_text : findings_text (found 2 None ∷ found 3 (Some Total) ∷ []) ≡ line (codes "agrees,2") ++ line (codes "differs,3,total") ++ line (codes "audited,2,1")
+looks_text : findings_text (found 2 None ∷ found 3 (Some Total) ∷ []) ≡ text_line (codes "agrees,2") ++ text_line (codes "differs,3,total") ++ text_line (codes "audited,2,1")
 unfolding findings_text rows_text number_text fields_text is_blank
 looks_text = refl
 
 -- The audit says that some line differs, and this is its text.
 pub record IsAuditOfLooks (audited : AuditText) : Type 0 where
   pub differs : audited.differs ≡ true
-  pub text : audited.text.items ≡ line (codes "agrees,2") ++ line (codes "differs,3,total") ++ line (codes "audited,2,1")
+  pub text : audited.text.items ≡ text_line (codes "agrees,2") ++ text_line (codes "differs,3,total") ++ text_line (codes "audited,2,1")
 
 looks_audited : (audited : AuditText) → HasAudit small_deck two_looks audited → IsAuditOfLooks audited
 looks_audited audited has =

@@ -18,7 +18,7 @@ use Rattle.air_report.proofs.PrintedGrammar.{begun_of, known_of}
 use Rattle.air_report.specs.ReportLines.{lines_in}
 use Rattle.air_report.specs.declared.reading.lines.EventLine.{EventLine}
 use Rattle.air_report.specs.declared.reading.lines.EventLine.TheVariants.{Start}
-use Rattle.air_report.specs.declared.reading.lines.Line.TheVariants.{Verdict}
+use Rattle.air_report.specs.declared.reading.lines.ReportLine.TheVariants.{Verdict}
 use Rattle.air_report.specs.KeptReports.{KeepsGrammar}
 use Rattle.air_report.specs.declared.reading.ReadReport.{ReadReport}
 use Rattle.live_replay.specs.Audits.{findings}

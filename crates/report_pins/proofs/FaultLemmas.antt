@@ -14,13 +14,13 @@ use Rattle.air_report.specs.declared.reading.faults.ReportError.{ReportError}
 use Rattle.air_report.specs.declared.reading.faults.ReportError.TheVariants.{Fault, NoMemory}
 use Rattle.air_report.proofs.TiedReports.{one_fault, report_or_fault, spelled_report, told_fault}
 use Rattle.text_pins.proofs.PlaceLemmas.{first_fault, first_fault_of_two, none_before_0, none_before_1}
-use Rattle.report_pins.specs.ReportAnswers.{IsFaultOrNoMemory}
+use Rattle.report_pins.specs.ReportAnswers.{IsReportFaultOrNoMemory}
 use Rattle.report_pins.specs.SmallDeck.{commit_skipped, cut_accept, glanced_before, looked_before, small_deck, started_after, two_unknown, young_deck}
 
 -- ---- a text with a fault is answered by it
 
 answered : (deck : Deck) (text : List ℕ) (row kind : ℕ) (result : Result ReportLines ReportError) → HasReportFault deck text row kind
-    → IfOk result (SpellsLines deck text) → IfErr result (IsReportAnswer deck text) → IsFaultOrNoMemory row kind result
+    → IfOk result (SpellsLines deck text) → IfErr result (IsReportAnswer deck text) → IsReportFaultOrNoMemory row kind result
 answered deck text row kind (Ok lines) has spells told = absurd (report_or_fault deck text (report_in deck lines) row kind (spelled_report deck text lines spells) has)
 answered deck text row kind (Err NoMemory) has spells told = inl refl
 answered deck text row kind (Err (Fault other_row other_kind)) has spells told =
@@ -33,7 +33,7 @@ fault_of d deck bytes text row kind is given has =
     subst (λ v. HasReportFault v bytes row kind) (sym is) (subst (λ t. HasReportFault deck t row kind) (sym given) has)
 
 pub told : (d deck : Deck) (bytes text : List ℕ) (row kind : ℕ) (result : Result ReportLines ReportError) → d ≡ deck → bytes ≡ text
-    → HasReportFault deck text row kind → IfOk result (SpellsLines d bytes) → IfErr result (IsReportAnswer d bytes) → IsFaultOrNoMemory row kind result
+    → HasReportFault deck text row kind → IfOk result (SpellsLines d bytes) → IfErr result (IsReportAnswer d bytes) → IsReportFaultOrNoMemory row kind result
 told d deck bytes text row kind result is given has spells fault =
     answered d bytes row kind result (fault_of d deck bytes text row kind is given has) spells fault
 

@@ -19,7 +19,7 @@ use Rattle.air_report.proofs.SameHistories.{legal_same}
 use Rattle.air_report.specs.ReadReports.{IsReportOf}
 use Rattle.air_report.proofs.TiedReports.{report_lines}
 use Rattle.air_report.specs.declared.reading.ReadReport.{ReadReport}
-use Rattle.report_pins.specs.SmallDeck.{add_to, each_section, set_to, small_deck, two_commits}
+use Rattle.report_pins.specs.SmallDeck.{adding_update, each_section, setting_update, small_deck, two_commits}
 
 -- The lines that are read are those of the text's records.
 pub lines_read : (deck : Deck) (text : List ℕ) (read : ReadReport) → IsReportOf deck text read → lines_in read.report ≡ sections_of (spelled_lines deck.settings.version (records_of text))
@@ -58,7 +58,7 @@ report_given d deck bytes text read is given spelled =
 -- ---- two commits
 
 pub commits_read : (d : Deck) (bytes : List ℕ) (result : Result ReadReport ReportError) → d ≡ small_deck → bytes ≡ two_commits → IfOk result (IsReportOf d bytes)
-    → IfOk result (λ read. read.report.history ≡ e.Commit 0 0 (set_to 0 11) ∷ e.Commit 0 1 (add_to 1 0 2) ∷ [])
+    → IfOk result (λ read. read.report.history ≡ e.Commit 0 0 (setting_update 0 11) ∷ e.Commit 0 1 (adding_update 1 0 2) ∷ [])
 unfolding short_of number_of csv_on_literals
 commits_read d bytes (Ok read) is given spelled =
     history_read small_deck two_commits read (Commit 0 0 ∷ Commit 0 1 ∷ []) (report_given d small_deck bytes two_commits read is given spelled) refl

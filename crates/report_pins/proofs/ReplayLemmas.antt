@@ -15,7 +15,7 @@ use Rattle.air_report.specs.LineRules.{InGrammar, IsRight}
 use Rattle.air_report.proofs.PrintedGrammar.{begun_of, known_of}
 use Rattle.air_report.proofs.SameHistories.{same_legal}
 use Rattle.air_report.specs.ReportLines.{lines_in}
-use Rattle.air_report.specs.declared.reading.lines.Line.TheVariants.{Look, Verdict}
+use Rattle.air_report.specs.declared.reading.lines.ReportLine.TheVariants.{Look, Verdict}
 use Rattle.air_report.specs.KeptReports.{KeepsGrammar}
 use Rattle.air_report.specs.declared.reading.ReadReport.{ReadReport}
 use Rattle.live_replay.specs.Audits.{findings}

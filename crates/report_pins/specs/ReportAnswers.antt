@@ -5,5 +5,5 @@ use Rattle.air_report.specs.declared.reading.faults.ReportError.{ReportError}
 use Rattle.air_report.specs.declared.reading.faults.ReportError.TheVariants.{Fault, NoMemory}
 
 -- The answer is this fault, where there was memory.
-abbrev pub IsFaultOrNoMemory : ℕ → ℕ → Result ReportLines ReportError → Type 0
-IsFaultOrNoMemory row kind result = (result ≡ Err NoMemory) ⊎ (result ≡ Err (Fault row kind))
+abbrev pub IsReportFaultOrNoMemory : ℕ → ℕ → Result ReportLines ReportError → Type 0
+IsReportFaultOrNoMemory row kind result = (result ≡ Err NoMemory) ⊎ (result ≡ Err (Fault row kind))

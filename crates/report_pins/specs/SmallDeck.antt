@@ -8,12 +8,12 @@ abbrev item : ℕ → Item
 item value = record { value = value; rate = 1 }
 
 -- An update that reads nothing, and sets an item to an amount.
-abbrev pub set_to : ℕ → ℕ → UpdateLists
-set_to item amount = record { reads = []; writes = record { item = item; base = None; minus = false; amount = amount } ∷ [] }
+abbrev pub setting_update : ℕ → ℕ → UpdateLists
+setting_update item amount = record { reads = []; writes = record { item = item; base = None; minus = false; amount = amount } ∷ [] }
 
 -- An update that sets an item to another and an amount.
-abbrev pub add_to : ℕ → ℕ → ℕ → UpdateLists
-add_to item base amount = record { reads = base ∷ []; writes = record { item = item; base = Some base; minus = false; amount = amount } ∷ [] }
+abbrev pub adding_update : ℕ → ℕ → ℕ → UpdateLists
+adding_update item base amount = record { reads = base ∷ []; writes = record { item = item; base = Some base; minus = false; amount = amount } ∷ [] }
 
 -- Updater 0 makes item 0 to 11, item 1 to item 0 and 2, and item 2 to 32; updater 1 has two updates. A reader of two tries asks four
 -- queries, and there is one monitor.
@@ -22,7 +22,7 @@ small_deck = record {
   items = item 10 ∷ item 20 ∷ item 30 ∷ item 40 ∷ [];
   disks = record { size = 4; freq = 1 } ∷ [];
   replans = [];
-  updates = (set_to 0 11 ∷ add_to 1 0 2 ∷ set_to 2 32 ∷ []) ∷ (set_to 3 42 ∷ set_to 3 43 ∷ []) ∷ [];
+  updates = (setting_update 0 11 ∷ adding_update 1 0 2 ∷ setting_update 2 32 ∷ []) ∷ (setting_update 3 42 ∷ setting_update 3 43 ∷ []) ∷ [];
   readers = record { room = 0; age = 0; tries = 2 } ∷ [];
   queries = ((0 ∷ 3 ∷ []) ∷ (0 ∷ 1 ∷ 2 ∷ []) ∷ (0 ∷ 1 ∷ []) ∷ (0 ∷ 2 ∷ []) ∷ []) ∷ [];
   script = [];
@@ -34,41 +34,41 @@ abbrev pub young_deck : Deck
 young_deck = record small_deck { settings = record small_deck.settings { version = 2 } }
 
 -- A line of a text.
-abbrev pub line : List ℕ → List ℕ
-line text = text ++ 10 ∷ []
+abbrev pub text_line : List ℕ → List ℕ
+text_line text = text ++ 10 ∷ []
 
 -- An accept of query 2 after its first read.
 abbrev pub cut_accept : List ℕ
-cut_accept = line (codes "start") ++ line (codes "accept,0,2,1,0@1=10")
+cut_accept = text_line (codes "start") ++ text_line (codes "accept,0,2,1,0@1=10")
 
 -- The first commit of updater 0, and then the second of updater 1, whose first is missing.
 abbrev pub commit_skipped : List ℕ
-commit_skipped = line (codes "commit,0,0") ++ line (codes "commit,1,1")
+commit_skipped = text_line (codes "commit,0,0") ++ text_line (codes "commit,1,1")
 
 -- An accept in cycle 1, and then its start.
 abbrev pub started_after : List ℕ
-started_after = line (codes "accept,0,2,1,0@1=10 1@1=20") ++ line (codes "start")
+started_after = text_line (codes "accept,0,2,1,0@1=10 1@1=20") ++ text_line (codes "start")
 
 -- A look, and then an accept in a cycle that didn't start.
 abbrev pub looked_before : List ℕ
-looked_before = line (codes "look,0,0,100") ++ line (codes "accept,0,2,1,0@1=10 1@1=20")
+looked_before = text_line (codes "look,0,0,100") ++ text_line (codes "accept,0,2,1,0@1=10 1@1=20")
 
 -- Two records of unknown tags.
 abbrev pub two_unknown : List ℕ
-two_unknown = line (codes "a") ++ line (codes "b")
+two_unknown = text_line (codes "a") ++ text_line (codes "b")
 
 -- A glance, and then a start.
 abbrev pub glanced_before : List ℕ
-glanced_before = line (codes "glance,0,0,100") ++ line (codes "start")
+glanced_before = text_line (codes "glance,0,0,100") ++ text_line (codes "start")
 
 -- Two commits of updater 0.
 abbrev pub two_commits : List ℕ
-two_commits = line (codes "commit,0,0") ++ line (codes "commit,0,1")
+two_commits = text_line (codes "commit,0,0") ++ text_line (codes "commit,0,1")
 
 -- A start, a verdict, a glance and a look.
 abbrev pub each_section : List ℕ
-each_section = line (codes "start") ++ line (codes "accept,0,2,1,0@1=10 1@1=20") ++ line (codes "glance,0,1,100") ++ line (codes "look,0,1,100")
+each_section = text_line (codes "start") ++ text_line (codes "accept,0,2,1,0@1=10 1@1=20") ++ text_line (codes "glance,0,1,100") ++ text_line (codes "look,0,1,100")
 
 -- A look that agrees, and one that doesn't.
 abbrev pub two_looks : List ℕ
-two_looks = line (codes "start") ++ line (codes "look,0,1,100") ++ line (codes "look,0,1,101")
+two_looks = text_line (codes "start") ++ text_line (codes "look,0,1,100") ++ text_line (codes "look,0,1,101")

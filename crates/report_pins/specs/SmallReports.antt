@@ -12,22 +12,22 @@ use Rattle.air_model.specs.declared.reports.VerdictLine.{VerdictLine}
 use Rattle.air_report.specs.declared.reading.ReadReport.{ReadReport}
 use Rattle.live_replay.specs.declared.findings.Cause.{Cause}
 use Rattle.live_replay.specs.declared.findings.Finding.{Finding}
-use Rattle.report_pins.specs.SmallDeck.{add_to, set_to, small_deck}
+use Rattle.report_pins.specs.SmallDeck.{adding_update, setting_update, small_deck}
 
 -- In cycle 1 item 0 becomes 11, item 1 becomes 13 and item 2 becomes 32; item 3 stays 40.
 abbrev pub history : List Event
-history = Start ∷ Commit 0 0 (set_to 0 11) ∷ Commit 0 1 (add_to 1 0 2) ∷ Commit 0 2 (set_to 2 32) ∷ Start ∷ []
+history = Start ∷ Commit 0 0 (setting_update 0 11) ∷ Commit 0 1 (adding_update 1 0 2) ∷ Commit 0 2 (setting_update 2 32) ∷ Start ∷ []
 
-abbrev read : ℕ → ℕ → ℕ → ReadOf
-read item cycle value = record { item = item; cycle = cycle; value = value }
+abbrev reported_read : ℕ → ℕ → ℕ → ReadOf
+reported_read item cycle value = record { item = item; cycle = cycle; value = value }
 
 -- The line of the first attempt of a query.
 abbrev ended : VerdictKind → ℕ → List ReadOf → VerdictLine
 ended kind query reads = record { reader = 0; verdict = record { query = query; attempt = 1; kind = kind }; reads = reads }
 
 -- A report of that history with these verdicts and looks, in these rows.
-abbrev told : List VerdictLine → List LookLine → List ℕ → List ℕ → ReadReport
-told verdicts looks verdict_rows look_rows = record {
+abbrev report_in_rows : List VerdictLine → List LookLine → List ℕ → List ℕ → ReadReport
+report_in_rows verdicts looks verdict_rows look_rows = record {
   report = record { history = history; verdicts = verdicts; counts = []; glances = []; looks = looks };
   verdict_rows = verdict_rows;
   glance_rows = [];
@@ -37,9 +37,9 @@ told verdicts looks verdict_rows look_rows = record {
 -- Under F-Matrix: an accept of reads from two commits, an abort that is right, an abort of a read that passes, an accept that is wrong by
 -- its last value and by its verdict, and a look at cycle 2.
 abbrev pub read_report : ReadReport
-read_report = told
-    (ended Accept 3 (read 0 2 11 ∷ read 2 2 32 ∷ []) ∷ ended (Abort 1 2 0) 2 (read 0 1 10 ∷ []) ∷ ended (Abort 1 1 0) 2 (read 0 1 10 ∷ [])
-    ∷ ended Accept 2 (read 0 1 10 ∷ read 1 2 14 ∷ []) ∷ [])
+read_report = report_in_rows
+    (ended Accept 3 (reported_read 0 2 11 ∷ reported_read 2 2 32 ∷ []) ∷ ended (Abort 1 2 0) 2 (reported_read 0 1 10 ∷ []) ∷ ended (Abort 1 1 0) 2 (reported_read 0 1 10 ∷ [])
+    ∷ ended Accept 2 (reported_read 0 1 10 ∷ reported_read 1 2 14 ∷ []) ∷ [])
     (record { monitor = 0; cycle = 2; total = 96 } ∷ [])
     (6 ∷ 7 ∷ 8 ∷ 9 ∷ [])
     (10 ∷ [])
@@ -50,8 +50,8 @@ r_matrix_deck = record small_deck { settings = record small_deck.settings { poli
 
 -- Under R-Matrix: an accept whose second read comes late, of an item that nothing writes, and an abort whose read clashes with both before it.
 abbrev pub late_report : ReadReport
-late_report = told
-    (ended Accept 0 (read 0 2 11 ∷ read 3 1 40 ∷ []) ∷ ended (Abort 2 2 0) 1 (read 0 1 10 ∷ read 1 1 20 ∷ []) ∷ [])
+late_report = report_in_rows
+    (ended Accept 0 (reported_read 0 2 11 ∷ reported_read 3 1 40 ∷ []) ∷ ended (Abort 2 2 0) 1 (reported_read 0 1 10 ∷ reported_read 1 1 20 ∷ []) ∷ [])
     []
     (6 ∷ 7 ∷ [])
     []
@@ -61,7 +61,7 @@ abbrev pub far_report : ReadReport
 far_report = record {
   report = record {
     history = replicate 256 Start;
-    verdicts = ended (Aged 1 256) 2 (read 0 1 10 ∷ []) ∷ ended (Aged 1 256) 2 (read 0 2 10 ∷ []) ∷ [];
+    verdicts = ended (Aged 1 256) 2 (reported_read 0 1 10 ∷ []) ∷ ended (Aged 1 256) 2 (reported_read 0 2 10 ∷ []) ∷ [];
     counts = [];
     glances = [];
     looks = [];

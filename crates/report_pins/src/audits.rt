@@ -6,7 +6,7 @@ ghost use Rattle.air_report.specs.ReadReports.{IsReportOf};
 ghost use Rattle.air_report.specs.declared.reading.ReadReport.{ReadReport};
 ghost use Rattle.live_replay.specs.Audits.{replayed_in};
 ghost use Rattle.air_report.specs.declared.reading.limits.TheConstants.{MOST_REPORT_BYTES};
-ghost use Rattle.report_pins.specs.SmallDeck.{line, small_deck, two_looks};
+ghost use Rattle.report_pins.specs.SmallDeck.{small_deck, text_line, two_looks};
 ghost use Rattle.report_pins.specs.SmallReports.{found};
 
 use air_base::NoMemory;
@@ -20,7 +20,7 @@ use std::alloc::Global;
 #[tactic(auto, using(crate::proofs::AuditLemmas::text_of_findings))]
 pub fn clash_told_as_verdict(alloc: Global, findings: &[Finding]) -> Result<Vec<u8>, NoMemory>
     requires { findings.now ≡ found 5 None ∷ found 6 (Some Cause.Clash) ∷ [] }
-    ensures { IfOk result (λ text. text.items ≡ line (codes "agrees,5") ++ line (codes "differs,6,clash") ++ line (codes "audited,2,1")) }
+    ensures { IfOk result (λ text. text.items ≡ text_line (codes "agrees,5") ++ text_line (codes "differs,6,clash") ++ text_line (codes "audited,2,1")) }
 {
     findings_text(alloc, findings)
 }
@@ -34,7 +34,7 @@ pub fn differs_only_where_all_do(
     requires deck { deck.now ≡ small_deck }
     requires bytes { bytes.now ≡ two_looks }
     ensures differs { IfOk result (λ audited. audited.differs ≡ true) }
-    ensures text { IfOk result (λ audited. audited.text.items ≡ line (codes "agrees,2") ++ line (codes "differs,3,total") ++ line (codes "audited,2,1")) }
+    ensures text { IfOk result (λ audited. audited.text.items ≡ text_line (codes "agrees,2") ++ text_line (codes "differs,3,total") ++ text_line (codes "audited,2,1")) }
 {
     audit_report(alloc, deck, bytes)
 }

@@ -2,7 +2,7 @@
 //! Each is refused with the first record that has a fault, and with the least kind there, or because memory ran out.
 
 ghost use Rattle.std.specs.Prelude.{◌≡◌, codes};
-ghost use Rattle.report_pins.specs.ReportAnswers.{IsFaultOrNoMemory};
+ghost use Rattle.report_pins.specs.ReportAnswers.{IsReportFaultOrNoMemory};
 ghost use Rattle.report_pins.specs.SmallDeck.{commit_skipped, cut_accept, glanced_before, looked_before, small_deck, started_after, two_unknown, young_deck};
 
 use air_report::{ReadLines, ReportError, read_lines};
@@ -17,7 +17,7 @@ pub fn accept_of_a_proper_prefix(
 ) -> Result<ReadLines, ReportError>
     requires deck { deck.now ≡ small_deck }
     requires bytes { bytes.now ≡ cut_accept }
-    ensures { IsFaultOrNoMemory 2 6 result }
+    ensures { IsReportFaultOrNoMemory 2 6 result }
 {
     read_lines(alloc, deck, bytes)
 }
@@ -30,7 +30,7 @@ pub fn aged_where_buckets_have_no_ages(
 ) -> Result<ReadLines, ReportError>
     requires deck { deck.now ≡ small_deck }
     requires bytes { bytes.now ≡ codes "aged,0,2,1,0@1=10,1@1" }
-    ensures { IsFaultOrNoMemory 1 3 result }
+    ensures { IsReportFaultOrNoMemory 1 3 result }
 {
     read_lines(alloc, deck, bytes)
 }
@@ -43,7 +43,7 @@ pub fn aged_unknown_where_buckets_have_ages(
 ) -> Result<ReadLines, ReportError>
     requires deck { deck.now ≡ young_deck }
     requires bytes { bytes.now ≡ codes "aged" }
-    ensures { IsFaultOrNoMemory 1 1 result }
+    ensures { IsReportFaultOrNoMemory 1 1 result }
 {
     read_lines(alloc, deck, bytes)
 }
@@ -56,7 +56,7 @@ pub fn bytes_behind_a_place_forgotten(
 ) -> Result<ReadLines, ReportError>
     requires deck { deck.now ≡ small_deck }
     requires bytes { bytes.now ≡ codes "abort,0,2,1,0@1=10,1@1x,0" }
-    ensures { IsFaultOrNoMemory 1 2 result }
+    ensures { IsReportFaultOrNoMemory 1 2 result }
 {
     read_lines(alloc, deck, bytes)
 }
@@ -69,7 +69,7 @@ pub fn catalog_taken_for_a_cycle_of_a_read(
 ) -> Result<ReadLines, ReportError>
     requires deck { deck.now ≡ small_deck }
     requires bytes { bytes.now ≡ codes "accept,0,2,1,0@0=10 1@0=20" }
-    ensures { IsFaultOrNoMemory 1 7 result }
+    ensures { IsReportFaultOrNoMemory 1 7 result }
 {
     read_lines(alloc, deck, bytes)
 }
@@ -82,7 +82,7 @@ pub fn commits_of_another_updater(
 ) -> Result<ReadLines, ReportError>
     requires deck { deck.now ≡ small_deck }
     requires bytes { bytes.now ≡ commit_skipped }
-    ensures { IsFaultOrNoMemory 2 5 result }
+    ensures { IsReportFaultOrNoMemory 2 5 result }
 {
     read_lines(alloc, deck, bytes)
 }
@@ -95,7 +95,7 @@ pub fn cycle_among_all_starts_of_the_report(
 ) -> Result<ReadLines, ReportError>
     requires deck { deck.now ≡ small_deck }
     requires bytes { bytes.now ≡ started_after }
-    ensures { IsFaultOrNoMemory 1 7 result }
+    ensures { IsReportFaultOrNoMemory 1 7 result }
 {
     read_lines(alloc, deck, bytes)
 }
@@ -108,7 +108,7 @@ pub fn greatest_kind_of_a_report(
 ) -> Result<ReadLines, ReportError>
     requires deck { deck.now ≡ small_deck }
     requires bytes { bytes.now ≡ looked_before }
-    ensures { IsFaultOrNoMemory 2 4 result }
+    ensures { IsReportFaultOrNoMemory 2 4 result }
 {
     read_lines(alloc, deck, bytes)
 }
@@ -121,7 +121,7 @@ pub fn later_fault_for_the_first(
 ) -> Result<ReadLines, ReportError>
     requires deck { deck.now ≡ small_deck }
     requires bytes { bytes.now ≡ two_unknown }
-    ensures { IsFaultOrNoMemory 1 3 result }
+    ensures { IsReportFaultOrNoMemory 1 3 result }
 {
     read_lines(alloc, deck, bytes)
 }
@@ -134,7 +134,7 @@ pub fn order_that_forgets_glances(
 ) -> Result<ReadLines, ReportError>
     requires deck { deck.now ≡ small_deck }
     requires bytes { bytes.now ≡ glanced_before }
-    ensures { IsFaultOrNoMemory 2 4 result }
+    ensures { IsReportFaultOrNoMemory 2 4 result }
 {
     read_lines(alloc, deck, bytes)
 }

@@ -3,7 +3,7 @@
 
 ghost use Rattle.std.specs.Prelude.{◌≡◌, [], ◌∷◌, IfOk};
 ghost use Rattle.air_history.specs.declared.histories.Event.TheVariants.{Commit};
-ghost use Rattle.report_pins.specs.SmallDeck.{add_to, each_section, set_to, small_deck, two_commits};
+ghost use Rattle.report_pins.specs.SmallDeck.{adding_update, each_section, setting_update, small_deck, two_commits};
 
 use air_report::{ReadReport, ReportError, read_report};
 use item_catalog::Deck;
@@ -28,7 +28,7 @@ pub fn update_of_another_number(
 ) -> Result<ReadReport, ReportError>
     requires deck { deck.now ≡ small_deck }
     requires bytes { bytes.now ≡ two_commits }
-    ensures { IfOk result (λ read. read.report.history ≡ Commit 0 0 (set_to 0 11) ∷ Commit 0 1 (add_to 1 0 2) ∷ []) }
+    ensures { IfOk result (λ read. read.report.history ≡ Commit 0 0 (setting_update 0 11) ∷ Commit 0 1 (adding_update 1 0 2) ∷ []) }
 {
     read_report(alloc, deck, bytes)
 }

@@ -1,15 +1,12 @@
 -- The buckets of version 2 that are heard are in range.
-use Rattle.std.proofs.Common.{◌≡◌, [], ◌∷◌, All, Result, Ok, refl, sym, subst, inr, rules, arith}
+use Rattle.std.proofs.Common.{◌≡◌, [], ◌∷◌, Result, Ok, refl, inr, rules, arith}
 use Rattle.std.specs.Prelude.{IfOk}
 use Rattle.std.proofs.lemmas.List.Elements.{All-cons, All-nil}
 use Rattle.air_history.specs.Ages.{capped}
 use Rattle.air_model.specs.declared.bucket.BucketFault.{BucketFault}
 use Rattle.air_model.specs.Buckets.{Bucket, IsInRange, count_of, entries_of, item_of, kind_of, value_of}
+use Rattle.session_pins.proofs.RangeLemmas.{of_answer}
 use Rattle.session_pins.specs.AgedReceivers.{early_bucket, far_bucket}
-
--- What is said of a bucket is said of the answer that has it.
-of_answer : (b : Bucket) (answer : Result Bucket BucketFault) → answer ≡ Ok b → IsInRange b → IfOk answer IsInRange
-of_answer b answer is range = subst (λ a. IfOk a IsInRange) (sym is) range
 
 pub early_range : (answer : Result Bucket BucketFault) → answer ≡ Ok early_bucket → IfOk answer IsInRange
 unfolding count_of entries_of item_of kind_of value_of capped

@@ -12,7 +12,7 @@ use Rattle.air_model.specs.Decks.{Deck, event_of, script_history, values_in}
 use Rattle.air_model.specs.Disks.{cut, order, order_with}
 use Rattle.air_model.specs.Programs.{chunk, chunk_len, least_common_multiple, minor_cycle, num_chunks, num_minors, program}
 use Rattle.session_pins.specs.SmallBuckets.{item_bytes}
-use Rattle.session_pins.specs.SmallDecks.{commit, scripted, set_to, updated}
+use Rattle.session_pins.specs.SmallDecks.{first_updater_commit, scripted, update_to, updated}
 
 -- A beginning of two events that has more than one is both.
 both_of : (H : List Event) (a b : Event) (n : ℕ) → H ≡ take n (a ∷ b ∷ []) → n ≤ 2 → 1 < n → H ≡ a ∷ b ∷ []
@@ -23,7 +23,7 @@ both_of H a b (suc (suc (suc n))) is_part few some = absurd (omega arith)
 
 -- The script of two commits has both updates.
 abbrev two_commits : List Event
-two_commits = commit 0 (set_to 0 11) ∷ commit 1 (set_to 1 21) ∷ []
+two_commits = first_updater_commit 0 (update_to 0 11) ∷ first_updater_commit 1 (update_to 1 21) ∷ []
 
 commits_computed : script_history (updated (Some 0 ∷ Some 0 ∷ [])) ≡ two_commits
 unfolding script_history event_of
@@ -33,7 +33,7 @@ commits_computed = refl
 pub both_commits : (deck : Deck) (H : List Event) → deck ≡ updated (Some 0 ∷ Some 0 ∷ []) → H ≡ take (length H) (script_history deck) →
     length H ≤ length deck.script → 1 < length H → H ≡ two_commits
 both_commits deck H is_updated begun within more =
-    both_of H (commit 0 (set_to 0 11)) (commit 1 (set_to 1 21)) (length H) (begun ∙ ap (λ d. take (length H) (script_history d)) is_updated ∙ ap (take (length H)) commits_computed)
+    both_of H (first_updater_commit 0 (update_to 0 11)) (first_updater_commit 1 (update_to 1 21)) (length H) (begun ∙ ap (λ d. take (length H) (script_history d)) is_updated ∙ ap (take (length H)) commits_computed)
     (omega (arith, within, ap (λ d. length d.script) is_updated)) more
 
 -- ---- two cycles

@@ -26,9 +26,9 @@ use Rattle.air_model.specs.Judges.{by_history, by_entries}
 use Rattle.air_model.specs.Outputs.{odds_in, script_tape, sessions_over, true_sessions}
 use Rattle.air_model.specs.Reports.{counts_lines, verdict_lines}
 use Rattle.air_model.specs.Sessions.{State, session, query_of, wanted, line_of, with_line, count_copied, count_opened, count_dozed, count_late, count_refused, count_foreign, next_query, next_attempt, accept_if_whole, hold, abort, is_unusable, drop_copy, copy_of, turn_with, turn, settle, decide, offer, open_bucket, hear_read, hear, hear_all, end_query, end, end_aged, judge_read}
-use Rattle.session_pins.specs.SmallDecks.{commit, noisy, pair, set_to, updated}
+use Rattle.session_pins.specs.SmallDecks.{first_updater_commit, noisy, pair, update_to, updated}
 use Rattle.session_pins.specs.SmallBuckets.{both_records, cut_tape, pair_tape}
-use Rattle.session_pins.specs.SmallReceivers.{counted, counts, read, told}
+use Rattle.session_pins.specs.SmallReceivers.{counted, counts, first_query_line, value_read}
 
 -- ---- through ethers
 
@@ -38,7 +38,7 @@ through_ethers deck tape = sessions_over (by_entries (scheme_in deck)) deck (λ 
 
 -- What noisy ethers leave: nothing for the first reader, and two buckets for the second, of which one is item 0.
 record Noisy : Type 0 where
-  verdicts : verdict_lines (through_ethers noisy both_records) ≡ told 0 Unfinished [] ∷ told 1 Unfinished (read 0 1 10 ∷ []) ∷ []
+  verdicts : verdict_lines (through_ethers noisy both_records) ≡ first_query_line 0 Unfinished [] ∷ first_query_line 1 Unfinished (value_read 0 1 10 ∷ []) ∷ []
   lines : counts_lines (through_ethers noisy both_records) ≡ counted 0 (counts 0 0 0 0 0 0) ∷ counted 1 (counts 1 1 0 0 0 0) ∷ []
 
 noisy_computed : Noisy
@@ -46,7 +46,7 @@ unfolding last_place greatest cycle_at front starts writer writer_before writes 
 noisy_computed = record { verdicts = refl; lines = refl }
 
 pub noisy_verdicts : (deck : Deck) (tape : TapeRead) → deck ≡ noisy → tape ≡ both_records →
-    verdict_lines (through_ethers deck tape) ≡ told 0 Unfinished [] ∷ told 1 Unfinished (read 0 1 10 ∷ []) ∷ []
+    verdict_lines (through_ethers deck tape) ≡ first_query_line 0 Unfinished [] ∷ first_query_line 1 Unfinished (value_read 0 1 10 ∷ []) ∷ []
 noisy_verdicts deck tape is_noisy both =
     ap (λ d. verdict_lines (through_ethers d tape)) is_noisy ∙ ap (λ t. verdict_lines (through_ethers noisy t)) both ∙ noisy_computed.verdicts
 
@@ -63,7 +63,7 @@ over_records deck tape = sessions_over (by_entries (scheme_in deck)) deck (λ r.
 
 -- What the pair's reader tells of the tape of both buckets, and what a cut tape holds.
 record Heard : Type 0 where
-  verdicts : verdict_lines (over_records pair pair_tape) ≡ told 0 Accept (read 0 1 10 ∷ read 1 1 20 ∷ []) ∷ []
+  verdicts : verdict_lines (over_records pair pair_tape) ≡ first_query_line 0 Accept (value_read 0 1 10 ∷ value_read 1 1 20 ∷ []) ∷ []
   lines : counts_lines (over_records pair pair_tape) ≡ counted 0 (counts 2 0 0 0 0 0) ∷ []
   whole : (tape_read pair_tape).cut ≡ None
   cut : (tape_read cut_tape).cut ≡ Some 36
@@ -73,7 +73,7 @@ unfolding last_place greatest cycle_at front starts writer writer_before writes 
 heard_computed = record { verdicts = refl; lines = refl; whole = refl; cut = refl }
 
 pub heard_verdicts : (deck : Deck) (bytes : List ℕ) → deck ≡ pair → bytes ≡ pair_tape →
-    verdict_lines (over_records deck bytes) ≡ told 0 Accept (read 0 1 10 ∷ read 1 1 20 ∷ []) ∷ []
+    verdict_lines (over_records deck bytes) ≡ first_query_line 0 Accept (value_read 0 1 10 ∷ value_read 1 1 20 ∷ []) ∷ []
 heard_verdicts deck bytes is_pair is_tape =
     ap (λ d. verdict_lines (over_records d bytes)) is_pair ∙ ap (λ t. verdict_lines (over_records pair t)) is_tape ∙ heard_computed.verdicts
 
@@ -95,10 +95,10 @@ abbrev around_a_start : List (Option ℕ)
 around_a_start = Some 0 ∷ None ∷ Some 0 ∷ []
 
 record Scripted : Type 0 where
-  history : script_history (updated around_a_start) ≡ commit 0 (set_to 0 11) ∷ Start ∷ commit 1 (set_to 1 21) ∷ []
-  verdicts : verdict_lines (true_sessions (updated around_a_start) (script_history (updated around_a_start))) ≡ told 0 Accept (read 0 1 11 ∷ read 1 1 20 ∷ []) ∷ []
+  history : script_history (updated around_a_start) ≡ first_updater_commit 0 (update_to 0 11) ∷ Start ∷ first_updater_commit 1 (update_to 1 21) ∷ []
+  verdicts : verdict_lines (true_sessions (updated around_a_start) (script_history (updated around_a_start))) ≡ first_query_line 0 Accept (value_read 0 1 11 ∷ value_read 1 1 20 ∷ []) ∷ []
   lines : counts_lines (true_sessions (updated around_a_start) (script_history (updated around_a_start))) ≡ counted 0 (counts 2 0 0 0 0 0) ∷ []
-  pair_verdicts : verdict_lines (true_sessions pair (Start ∷ [])) ≡ told 0 Accept (read 0 1 10 ∷ read 1 1 20 ∷ []) ∷ []
+  pair_verdicts : verdict_lines (true_sessions pair (Start ∷ [])) ≡ first_query_line 0 Accept (value_read 0 1 10 ∷ value_read 1 1 20 ∷ []) ∷ []
   pair_lines : counts_lines (true_sessions pair (Start ∷ [])) ≡ counted 0 (counts 2 0 0 0 0 0) ∷ []
   pair_history : script_history pair ≡ Start ∷ []
 
@@ -106,11 +106,11 @@ scripted_computed : Scripted
 unfolding last_place greatest cycle_at front starts writer writer_before writes reads is_start descends descends_in column_entry vector_entry value_on_base write_of value_after table origin stale descends_from runs_alone last_alone consistent least is_late clash_by_history clash_by_entries body_at bucket_at count_of entries_at entry_told raw_entries entries_of entry_count is_placed is_shaped is_entry item_of kind_of reading spelling entry_bytes value_of words_by due_at due_number heard_list heard_by heard_places places_due times_heard keep without_item with_copy order order_with cut program least_common_multiple num_minors num_chunks chunk_len chunk minor_cycle minor_len disk_number chunks_of pix_number event_of script_history body_of bucket_of capped_entries capped_body buckets_of body_fits fits by_history by_entries session query_of wanted line_of with_line count_copied count_opened count_dozed count_late count_refused count_foreign next_query next_attempt accept_if_whole hold abort is_unusable drop_copy copy_of turn_with turn settle decide offer open_bucket end_aged judge_read hear_read hear hear_all end_query end true_sessions read_from ends_inside
 scripted_computed = record { history = refl; verdicts = refl; lines = refl; pair_verdicts = refl; pair_lines = refl; pair_history = refl }
 
-pub updated_history : (deck : Deck) → deck ≡ updated around_a_start → script_history deck ≡ commit 0 (set_to 0 11) ∷ Start ∷ commit 1 (set_to 1 21) ∷ []
+pub updated_history : (deck : Deck) → deck ≡ updated around_a_start → script_history deck ≡ first_updater_commit 0 (update_to 0 11) ∷ Start ∷ first_updater_commit 1 (update_to 1 21) ∷ []
 updated_history deck is_updated = ap script_history is_updated ∙ scripted_computed.history
 
 pub updated_verdicts : (deck : Deck) → deck ≡ updated around_a_start →
-    verdict_lines (true_sessions deck (script_history deck)) ≡ told 0 Accept (read 0 1 11 ∷ read 1 1 20 ∷ []) ∷ []
+    verdict_lines (true_sessions deck (script_history deck)) ≡ first_query_line 0 Accept (value_read 0 1 11 ∷ value_read 1 1 20 ∷ []) ∷ []
 updated_verdicts deck is_updated = ap (λ d. verdict_lines (true_sessions d (script_history d))) is_updated ∙ scripted_computed.verdicts
 
 pub updated_lines : (deck : Deck) → deck ≡ updated around_a_start →
@@ -118,7 +118,7 @@ pub updated_lines : (deck : Deck) → deck ≡ updated around_a_start →
 updated_lines deck is_updated = ap (λ d. counts_lines (true_sessions d (script_history d))) is_updated ∙ scripted_computed.lines
 
 pub pair_verdicts : (deck : Deck) (H : List Event) → deck ≡ pair → H ≡ Start ∷ [] →
-    verdict_lines (true_sessions deck H) ≡ told 0 Accept (read 0 1 10 ∷ read 1 1 20 ∷ []) ∷ []
+    verdict_lines (true_sessions deck H) ≡ first_query_line 0 Accept (value_read 0 1 10 ∷ value_read 1 1 20 ∷ []) ∷ []
 pair_verdicts deck H is_pair is_start =
     ap (λ d. verdict_lines (true_sessions d H)) is_pair ∙ ap (λ G. verdict_lines (true_sessions pair G)) is_start ∙ scripted_computed.pair_verdicts
 

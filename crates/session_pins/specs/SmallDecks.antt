@@ -52,13 +52,13 @@ noisy = record pair {
 }
 
 -- An update that sets an item to an amount.
-abbrev pub set_to : ℕ → ℕ → UpdateLists
-set_to item amount = record { reads = []; writes = record { item = item; base = None; minus = false; amount = amount } ∷ [] }
+abbrev pub update_to : ℕ → ℕ → UpdateLists
+update_to item amount = record { reads = []; writes = record { item = item; base = None; minus = false; amount = amount } ∷ [] }
 
 -- The commit of updater 0 of this number.
-abbrev pub commit : ℕ → UpdateLists → Event
-commit seq update = Commit 0 seq update
+abbrev pub first_updater_commit : ℕ → UpdateLists → Event
+first_updater_commit seq update = Commit 0 seq update
 
 -- One updater sets item 0 to 11 and then item 1 to 21.
 abbrev pub updated : List (Option ℕ) → Deck
-updated script = record pair { updates = (set_to 0 11 ∷ set_to 1 21 ∷ []) ∷ []; script = script }
+updated script = record pair { updates = (update_to 0 11 ∷ update_to 1 21 ∷ []) ∷ []; script = script }

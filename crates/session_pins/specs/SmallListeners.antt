@@ -4,7 +4,7 @@ use Rattle.air_base.specs.declared.verdicts.Policy.TheVariants.{FMatrix}
 use Rattle.air_base.specs.declared.verdicts.VerdictKind.TheVariants.{Accept}
 use Rattle.air_model.specs.Sessions.{State, start}
 use Rattle.listeners.specs.Listeners.{Listener}
-use Rattle.session_pins.specs.SmallReceivers.{air_by, asker, counts, heard, line, read}
+use Rattle.session_pins.specs.SmallReceivers.{air_by, asker, counts, heard, session_line, value_read}
 
 -- The asker as the reader of a number, in a state.
 abbrev pub listener_in : ℕ → State → Listener
@@ -17,5 +17,5 @@ accepted number = listener_in number (record start {
   copies = heard 0 1 10 (0 ∷ 0 ∷ []) ∷ [];
   now = 1;
   counts = counts 2 0 0 0 0 0;
-  lines = line 0 1 Accept (read 0 1 10 ∷ read 1 1 20 ∷ []) ∷ [];
+  lines = session_line 0 1 Accept (value_read 0 1 10 ∷ value_read 1 1 20 ∷ []) ∷ [];
 })

@@ -25,8 +25,8 @@ abbrev pub heard : ℕ → ℕ → ℕ → List ℕ → Read
 heard item cycle value entries = record { item = item; cycle = cycle; value = value; entries = entries }
 
 -- A read as verdict lines have it.
-abbrev pub read : ℕ → ℕ → ℕ → ReadOf
-read item cycle value = record { item = item; cycle = cycle; value = value }
+abbrev pub value_read : ℕ → ℕ → ℕ → ReadOf
+value_read item cycle value = record { item = item; cycle = cycle; value = value }
 
 -- The counts: opened, dozed, late, refused, foreign, copied.
 abbrev pub counts : ℕ → ℕ → ℕ → ℕ → ℕ → ℕ → Counts
@@ -37,17 +37,17 @@ abbrev pub holding : ℕ → State
 holding cycle = record start { held = heard 0 cycle 10 (0 ∷ 0 ∷ []) ∷ []; now = cycle; counts = counts 1 0 0 0 0 0 }
 
 -- The verdict line of an attempt.
-abbrev pub line : ℕ → ℕ → VerdictKind → List ReadOf → Line
-line query attempt kind reads = record { verdict = record { query = query; attempt = attempt; kind = kind }; reads = reads }
+abbrev pub session_line : ℕ → ℕ → VerdictKind → List ReadOf → Line
+session_line query attempt kind reads = record { verdict = record { query = query; attempt = attempt; kind = kind }; reads = reads }
 
 -- The verdict line of a reader's attempt at its first query.
-abbrev pub told : ℕ → VerdictKind → List ReadOf → VerdictLine
-told reader kind reads = record { reader = reader; verdict = record { query = 0; attempt = 1; kind = kind }; reads = reads }
+abbrev pub first_query_line : ℕ → VerdictKind → List ReadOf → VerdictLine
+first_query_line reader kind reads = record { reader = reader; verdict = record { query = 0; attempt = 1; kind = kind }; reads = reads }
 
 -- The line of a reader's counts.
 abbrev pub counted : ℕ → Counts → CountsLine
 counted reader c = record { reader = reader; counts = c }
 
 -- The asker in a state, before its first verdict.
-abbrev pub receiver_in : Air → State → Receiver
-receiver_in air s = record { air = air; reader = asker; state = s; last = [] }
+abbrev pub asker_in : Air → State → Receiver
+asker_in air s = record { air = air; reader = asker; state = s; last = [] }

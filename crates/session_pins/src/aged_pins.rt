@@ -6,7 +6,7 @@ ghost use Rattle.air_base.specs.declared.verdicts.Policy.TheVariants.{FMatrix};
 ghost use Rattle.air_base.specs.declared.verdicts.VerdictKind.TheVariants.{Aged};
 ghost use Rattle.air_model.specs.Sessions.{start};
 ghost use Rattle.session_pins.specs.AgedReceivers.{aging_air, early_bucket, far_bucket, far_read, held_read, keeping};
-ghost use Rattle.session_pins.specs.SmallReceivers.{air_by, counts, holding, line, read, receiver_in};
+ghost use Rattle.session_pins.specs.SmallReceivers.{air_by, asker_in, counts, holding, session_line, value_read};
 
 use air_model::bucket::BucketFault;
 use bucket_codec::BucketView;
@@ -17,7 +17,7 @@ pub fn newer_version_fits(
     receiver: &mut Receiver,
     heard: &Result<BucketView<'_>, BucketFault>,
 ) -> Fed
-    requires receiver { receiver.old ≡ receiver_in (air_by FMatrix) start }
+    requires receiver { receiver.old ≡ asker_in (air_by FMatrix) start }
     requires heard { heard.now ≡ Ok early_bucket }
     ensures fed { result ≡ Fed.Foreign }
     ensures state { receiver.new.state ≡ record start { counts = counts 0 0 0 0 1 0 } }
@@ -30,10 +30,10 @@ pub fn clash_asked_before_the_span(
     receiver: &mut Receiver,
     heard: &Result<BucketView<'_>, BucketFault>,
 ) -> Fed
-    requires receiver { receiver.old ≡ receiver_in aging_air (holding 1) }
+    requires receiver { receiver.old ≡ asker_in aging_air (holding 1) }
     requires heard { heard.now ≡ Ok far_bucket }
     ensures fed { result ≡ Fed.Opened }
-    ensures lines { receiver.new.state.lines ≡ line 0 1 (Aged 1 256) (read 0 1 10 ∷ []) ∷ [] }
+    ensures lines { receiver.new.state.lines ≡ session_line 0 1 (Aged 1 256) (value_read 0 1 10 ∷ []) ∷ [] }
 {
     receiver.hear(heard)
 }
@@ -51,7 +51,7 @@ pub fn copy_dropped_by_an_aged_attempt(
       copies = held_read ∷ far_read ∷ [];
       now = 256;
       counts = counts 2 0 0 0 0 0;
-      lines = line 0 1 (Aged 1 256) (read 0 1 10 ∷ []) ∷ [];
+      lines = session_line 0 1 (Aged 1 256) (value_read 0 1 10 ∷ []) ∷ [];
     } }
 {
     receiver.hear(heard)
@@ -62,14 +62,14 @@ pub fn aged_read_not_offered(
     receiver: &mut Receiver,
     heard: &Result<BucketView<'_>, BucketFault>,
 ) -> Fed
-    requires receiver { receiver.old ≡ receiver_in aging_air (holding 1) }
+    requires receiver { receiver.old ≡ asker_in aging_air (holding 1) }
     requires heard { heard.now ≡ Ok far_bucket }
     ensures state { receiver.new.state ≡ record start {
       query = 1;
       copies = far_read ∷ [];
       now = 256;
       counts = counts 2 0 0 0 0 0;
-      lines = line 0 1 (Aged 1 256) (read 0 1 10 ∷ []) ∷ [];
+      lines = session_line 0 1 (Aged 1 256) (value_read 0 1 10 ∷ []) ∷ [];
     } }
 {
     receiver.hear(heard)

@@ -9,7 +9,7 @@ ghost use Rattle.air_model.specs.Tapes.{tape_read};
 ghost use Rattle.session_pins.specs.SmallBuckets.{both_records, bucket};
 ghost use Rattle.session_pins.specs.SmallDecks.{noisy};
 ghost use Rattle.session_pins.specs.SmallListeners.{accepted, listener_in};
-ghost use Rattle.session_pins.specs.SmallReceivers.{counted, counts, heard as heard_read, holding, read, told};
+ghost use Rattle.session_pins.specs.SmallReceivers.{counted, counts, first_query_line, heard as heard_read, holding, value_read};
 
 use air_base::NoMemory;
 use air_model::bucket::BucketFault;
@@ -41,7 +41,7 @@ pub fn lines_of_the_first_reader(
     requires listener { listener ≡ listener_in 1 (holding 1) }
     requires verdicts { before.verdicts.items ≡ [] }
     requires lines { before.counts.items ≡ [] }
-    ensures verdicts { IfOk result (λ s. s.verdicts.items ≡ told 1 Unfinished (read 0 1 10 ∷ []) ∷ []) }
+    ensures verdicts { IfOk result (λ s. s.verdicts.items ≡ first_query_line 1 Unfinished (value_read 0 1 10 ∷ []) ∷ []) }
     ensures lines { IfOk result (λ s. s.counts.items ≡ counted 1 (counts 1 0 0 0 0 0) ∷ []) }
 {
     listener.end(alloc, before)
@@ -57,7 +57,7 @@ pub fn lossy_ethers_heard_together<T: Threads + Sync>(
 ) -> Result<Sessions, NoMemory>
     requires deck { planned.now ≡ noisy }
     requires tape { tape_read tape.now ≡ both_records }
-    ensures verdicts { IfOk result (λ s. s.verdicts.items ≡ told 0 Unfinished [] ∷ told 1 Unfinished (read 0 1 10 ∷ []) ∷ []) }
+    ensures verdicts { IfOk result (λ s. s.verdicts.items ≡ first_query_line 0 Unfinished [] ∷ first_query_line 1 Unfinished (value_read 0 1 10 ∷ []) ∷ []) }
     ensures lines { IfOk result (λ s. s.counts.items ≡ counted 0 (counts 0 0 0 0 0 0) ∷ counted 1 (counts 1 1 0 0 0 0) ∷ []) }
 {
     let sessions = ether_sessions(threads, alloc, planned, tape)?;

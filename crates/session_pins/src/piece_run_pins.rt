@@ -6,7 +6,7 @@ ghost use Rattle.air_history.specs.declared.histories.Event.TheVariants.{Start};
 ghost use Rattle.air_sender.specs.TapeMasts.{told_by_tape};
 ghost use Rattle.scripts.specs.PieceRuns.{IsPieceRun};
 ghost use Rattle.session_pins.specs.SmallBuckets.{item_bytes};
-ghost use Rattle.session_pins.specs.SmallDecks.{commit, scripted, set_to, updated};
+ghost use Rattle.session_pins.specs.SmallDecks.{first_updater_commit, scripted, update_to, updated};
 
 use air_base::NoMemory;
 use air_sender::TapeMast;
@@ -23,8 +23,8 @@ pub fn another_update_of_the_updater(
 ) -> Result<(), NoMemory>
     requires deck { planned.now ≡ updated (Some 0 ∷ Some 0 ∷ []) }
     requires kept { IsPieceRun planned.now run.old }
-    requires events { run.old.events.items ≡ commit 0 (set_to 0 11) ∷ [] }
-    ensures { OnOk result (run.new.events.items ≡ commit 0 (set_to 0 11) ∷ commit 1 (set_to 1 21) ∷ []) }
+    requires events { run.old.events.items ≡ first_updater_commit 0 (update_to 0 11) ∷ [] }
+    ensures { OnOk result (run.new.events.items ≡ first_updater_commit 0 (update_to 0 11) ∷ first_updater_commit 1 (update_to 1 21) ∷ []) }
 {
     run.next_piece(alloc, planned, 1, piece)?;
     Ok(())

@@ -9,7 +9,7 @@ ghost use Rattle.air_model.specs.Decks.{disks_in};
 ghost use Rattle.air_model.specs.Sessions.{start};
 ghost use Rattle.session_pins.specs.SmallBuckets.{bucket};
 ghost use Rattle.session_pins.specs.SmallDecks.{tiered};
-ghost use Rattle.session_pins.specs.SmallReceivers.{air_by, counts, heard as heard_read, holding, line, read, receiver_in};
+ghost use Rattle.session_pins.specs.SmallReceivers.{air_by, asker_in, counts, heard as heard_read, holding, session_line, value_read};
 
 use air_base::NoMemory;
 use air_model::bucket::BucketFault;
@@ -24,7 +24,7 @@ pub fn every_fault_told_as_shape(
     receiver: &mut Receiver,
     heard: &Result<BucketView<'_>, BucketFault>,
 ) -> Fed
-    requires receiver { receiver.old ≡ receiver_in (air_by FMatrix) (holding 1) }
+    requires receiver { receiver.old ≡ asker_in (air_by FMatrix) (holding 1) }
     requires heard { heard.now ≡ Err BucketFault.Magic }
     ensures fed { result ≡ Fed.Refused BucketFault.Magic }
     ensures state { receiver.new.state ≡ record (holding 1) { counts = counts 1 0 0 1 0 0 } }
@@ -34,7 +34,7 @@ pub fn every_fault_told_as_shape(
 
 /// Where the first item of a query is held, the second is wanted.
 pub fn held_item_wanted_again(receiver: &Receiver) -> Option<u16>
-    requires { receiver.now ≡ receiver_in (air_by FMatrix) (holding 1) }
+    requires { receiver.now ≡ asker_in (air_by FMatrix) (holding 1) }
     ensures { result ≡ Some 1 }
 {
     receiver.wanted()
@@ -42,7 +42,7 @@ pub fn held_item_wanted_again(receiver: &Receiver) -> Option<u16>
 
 /// Under R-Matrix a read of an older cycle than the held one comes too late, by one cycle too (one cycle older not late).
 pub fn late_read_opened(receiver: &mut Receiver, heard: &Result<BucketView<'_>, BucketFault>) -> Fed
-    requires receiver { receiver.old ≡ receiver_in (air_by RMatrix) (holding 3) }
+    requires receiver { receiver.old ≡ asker_in (air_by RMatrix) (holding 3) }
     requires heard { heard.now ≡ Ok (bucket 2 1 (Vector 1 20 (0 ∷ 0 ∷ []))) }
     ensures fed { result ≡ Fed.Late }
     ensures state { receiver.new.state ≡ record (holding 3) { counts = counts 1 0 1 0 0 0 } }
@@ -55,7 +55,7 @@ pub fn loose_decoder_other_edition_opened(
     receiver: &mut Receiver,
     heard: &Result<BucketView<'_>, BucketFault>,
 ) -> Fed
-    requires receiver { receiver.old ≡ receiver_in (air_by FMatrix) start }
+    requires receiver { receiver.old ≡ asker_in (air_by FMatrix) start }
     requires heard { heard.now ≡ Ok (record (bucket 1 0 (Column 0 10 (0 ∷ 0 ∷ []))) { edition = 1 }) }
     ensures fed { result ≡ Fed.Foreign }
     ensures state { receiver.new.state ≡ record start { counts = counts 0 0 0 0 1 0 } }
@@ -68,7 +68,7 @@ pub fn offer_left_out_after_an_abort(
     receiver: &mut Receiver,
     heard: &Result<BucketView<'_>, BucketFault>,
 ) -> Fed
-    requires receiver { receiver.old ≡ receiver_in (air_by FMatrix) (holding 1) }
+    requires receiver { receiver.old ≡ asker_in (air_by FMatrix) (holding 1) }
     requires heard { heard.now ≡ Ok (bucket 2 1 (Column 1 25 (1 ∷ 1 ∷ []))) }
     ensures fed { result ≡ Fed.Opened }
     ensures state { receiver.new.state ≡ record start {
@@ -76,9 +76,9 @@ pub fn offer_left_out_after_an_abort(
       copies = heard_read 1 2 25 (1 ∷ 1 ∷ []) ∷ [];
       now = 2;
       counts = counts 2 0 0 0 0 0;
-      lines = line 0 1 (Abort 1 2 0) (read 0 1 10 ∷ []) ∷ [];
+      lines = session_line 0 1 (Abort 1 2 0) (value_read 0 1 10 ∷ []) ∷ [];
     } }
-    ensures last { receiver.new.last ≡ read 0 1 10 ∷ [] }
+    ensures last { receiver.new.last ≡ value_read 0 1 10 ∷ [] }
 {
     receiver.hear(heard)
 }

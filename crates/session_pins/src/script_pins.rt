@@ -6,8 +6,8 @@ ghost use Rattle.air_base.specs.declared.verdicts.VerdictKind.TheVariants.{Accep
 ghost use Rattle.air_history.specs.declared.histories.Event.TheVariants.{Start};
 ghost use Rattle.listeners.specs.HistoryTapes.{HasTape};
 ghost use Rattle.session_pins.specs.SmallBuckets.{pair_tape};
-ghost use Rattle.session_pins.specs.SmallDecks.{commit, pair, set_to, updated};
-ghost use Rattle.session_pins.specs.SmallReceivers.{counted, counts, read, told};
+ghost use Rattle.session_pins.specs.SmallDecks.{first_updater_commit, pair, update_to, updated};
+ghost use Rattle.session_pins.specs.SmallReceivers.{counted, counts, first_query_line, value_read};
 
 use air_base::NoMemory;
 use chunk_program::Planned;
@@ -24,8 +24,8 @@ pub fn history_left_out_of_the_report<T: Threads + Sync>(
     planned: &Planned,
 ) -> Result<AiredScript, NoMemory>
     requires { planned.now ≡ updated (Some 0 ∷ None ∷ Some 0 ∷ []) }
-    ensures events { IfOk result (λ s. s.events.items ≡ commit 0 (set_to 0 11) ∷ Start ∷ commit 1 (set_to 1 21) ∷ []) }
-    ensures verdicts { IfOk result (λ s. s.sessions.verdicts.items ≡ told 0 Accept (read 0 1 11 ∷ read 1 1 20 ∷ []) ∷ []) }
+    ensures events { IfOk result (λ s. s.events.items ≡ first_updater_commit 0 (update_to 0 11) ∷ Start ∷ first_updater_commit 1 (update_to 1 21) ∷ []) }
+    ensures verdicts { IfOk result (λ s. s.sessions.verdicts.items ≡ first_query_line 0 Accept (value_read 0 1 11 ∷ value_read 1 1 20 ∷ []) ∷ []) }
     ensures lines { IfOk result (λ s. s.sessions.counts.items ≡ counted 0 (counts 2 0 0 0 0 0) ∷ []) }
 {
     let aired = air_script(threads, alloc, planned, &Discard, &mut ())?;
@@ -39,7 +39,7 @@ pub fn last_piece_not_heard<T: Threads + Sync>(
     planned: &Planned,
 ) -> Result<AiredScript, NoMemory>
     requires { planned.now ≡ pair }
-    ensures { IfOk result (λ s. s.sessions.verdicts.items ≡ told 0 Accept (read 0 1 10 ∷ read 1 1 20 ∷ []) ∷ []) }
+    ensures { IfOk result (λ s. s.sessions.verdicts.items ≡ first_query_line 0 Accept (value_read 0 1 10 ∷ value_read 1 1 20 ∷ []) ∷ []) }
 {
     let aired = air_script(threads, alloc, planned, &Discard, &mut ())?;
     Ok(aired)
@@ -70,7 +70,7 @@ pub fn sessions_without_their_counts<T: Threads + Sync>(
 ) -> Result<Sessions, NoMemory>
     requires deck { planned.now ≡ pair }
     requires tape { HasTape planned.now (Start ∷ []) tape.now }
-    ensures verdicts { IfOk result (λ s. s.verdicts.items ≡ told 0 Accept (read 0 1 10 ∷ read 1 1 20 ∷ []) ∷ []) }
+    ensures verdicts { IfOk result (λ s. s.verdicts.items ≡ first_query_line 0 Accept (value_read 0 1 10 ∷ value_read 1 1 20 ∷ []) ∷ []) }
     ensures lines { IfOk result (λ s. s.counts.items ≡ counted 0 (counts 2 0 0 0 0 0) ∷ []) }
 {
     let sessions = history_sessions(threads, alloc, planned, tape)?;

@@ -5,7 +5,7 @@ ghost use Rattle.std.specs.Prelude.{◌≡◌, [], ◌∷◌, IfErr, IfOk, Match
 ghost use Rattle.air_base.specs.declared.verdicts.VerdictKind.TheVariants.{Accept};
 ghost use Rattle.session_pins.specs.SmallBuckets.{cut_tape, pair_tape};
 ghost use Rattle.session_pins.specs.SmallDecks.{pair};
-ghost use Rattle.session_pins.specs.SmallReceivers.{counted, counts, read, told};
+ghost use Rattle.session_pins.specs.SmallReceivers.{counted, counts, first_query_line, value_read};
 ghost use Rattle.session_pins.specs.Refusals.{IsCutAt, IsUnread};
 
 use air_cli::{PieceSizes, file_sessions, piece_sessions};
@@ -42,7 +42,7 @@ pub fn carried_rest_forgotten<T: Threads + Sync, S: Shelf>(
 ) -> Result<Sessions, Status>
     requires deck { planned.now ≡ pair }
     requires file { (S.state shelf.old).told.file name.now ≡ Some pair_tape }
-    ensures verdicts { IfOk result (λ s. s.verdicts.items ≡ told 0 Accept (read 0 1 10 ∷ read 1 1 20 ∷ []) ∷ []) }
+    ensures verdicts { IfOk result (λ s. s.verdicts.items ≡ first_query_line 0 Accept (value_read 0 1 10 ∷ value_read 1 1 20 ∷ []) ∷ []) }
     ensures lines { IfOk result (λ s. s.counts.items ≡ counted 0 (counts 2 0 0 0 0 0) ∷ []) }
     ensures refused { IfErr result IsUnread }
 {

@@ -6,5 +6,5 @@ use Rattle.air_history.specs.UpdateRules.{UpdateFits}
 use Rattle.station.specs.PassStates.{PassState}
 
 -- The pass is of this station, and the update fits the station's items.
-abbrev pub IsReady : TurnstileId → PassState → UpdateLists → Type 0
-IsReady station pass update = (pass.station ≡ station) × UpdateFits (length pass.values) update
+abbrev pub FitsStation : TurnstileId → PassState → UpdateLists → Type 0
+FitsStation station pass update = (pass.station ≡ station) × UpdateFits (length pass.values) update

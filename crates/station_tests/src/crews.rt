@@ -2,7 +2,7 @@
 ghost use Rattle.std.specs.Prelude.{◌≡◌, ℕ, ◌<◌, length, Contains, IfOk, IfSome, IsTrue};
 ghost use Rattle.std.specs.Thread.{IsSync};
 ghost use Rattle.station.specs.PassStates.{numbers_of, with_seen};
-ghost use Rattle.station_tests.specs.Workers.{IsReady};
+ghost use Rattle.station_tests.specs.Workers.{FitsStation};
 
 use crate::replays::replay;
 use crate::workers::{Conductor, Worker};
@@ -22,7 +22,7 @@ fn hire(
     pass: UpdaterPass,
 ) -> Result<Option<Worker>, NoMemory>
     requires own { (pass.station ≡ station.now) × (length pass.values ≡ length deck.now.items) }
-    ensures ready { IfOk result (λ w. IfSome w (λ w. IsReady station.now w.pass w.update)) }
+    ensures ready { IfOk result (λ w. IfSome w (λ w. FitsStation station.now w.pass w.update)) }
 {
     let by = pass.by();
     if by >= deck.updaters() {
@@ -44,8 +44,8 @@ pub fn open(
     text: &[u8],
 ) -> Result<Option<(Station, Conductor, Worker, Worker)>, Fail>
     ensures conductor { IfOk result (λ o. IfSome o (λ c. (c.1.pass.station ≡ c.0) × (c.1.pass.updaters ≡ 2))) }
-    ensures one { IfOk result (λ o. IfSome o (λ c. IsReady c.0 c.2.pass c.2.update)) }
-    ensures two { IfOk result (λ o. IfSome o (λ c. IsReady c.0 c.3.pass c.3.update)) }
+    ensures one { IfOk result (λ o. IfSome o (λ c. FitsStation c.0 c.2.pass c.2.update)) }
+    ensures two { IfOk result (λ o. IfSome o (λ c. FitsStation c.0 c.3.pass c.3.update)) }
 {
     if text.len() > 1000 {
         return Ok(None);
@@ -79,10 +79,10 @@ fn work_both<R: Threads + Wait + Sync>(
     two: &mut Worker,
     commits: u32,
 )
-    requires one { IsReady station.now one.old.pass one.old.update }
-    requires two { IsReady station.now two.old.pass two.old.update }
-    ensures one { IsReady station.now one.new.pass one.new.update }
-    ensures two { IsReady station.now two.new.pass two.new.update }
+    requires one { FitsStation station.now one.old.pass one.old.update }
+    requires two { FitsStation station.now two.old.pass two.old.update }
+    ensures one { FitsStation station.now one.new.pass one.new.update }
+    ensures two { FitsStation station.now two.new.pass two.new.update }
 {
     join_mut(
         rt,
@@ -103,18 +103,18 @@ pub fn work_all<R: Threads + Wait + Sync>(
     cycles: u32,
 )
     requires conductor { conductor.old.pass.station ≡ station.now }
-    requires one { IsReady station.now one.old.pass one.old.update }
-    requires two { IsReady station.now two.old.pass two.old.update }
+    requires one { FitsStation station.now one.old.pass one.old.update }
+    requires two { FitsStation station.now two.old.pass two.old.update }
     ensures conductor { conductor.new.pass ≡ with_seen conductor.old.pass conductor.new.pass.seen }
-    ensures one { IsReady station.now one.new.pass one.new.update }
-    ensures two { IsReady station.now two.new.pass two.new.update }
+    ensures one { FitsStation station.now one.new.pass one.new.update }
+    ensures two { FitsStation station.now two.new.pass two.new.update }
 {
     join_mut(
         rt,
         &mut || conductor.start_all(rt, alloc, station, cycles),
         &mut ||
-            requires { IsSync R.row × IsReady station.now one.now.pass one.now.update × IsReady station.now two.now.pass two.now.update }
-            ensures { IsReady station.entry.now one.exit.now.pass one.exit.now.update × IsReady station.entry.now two.exit.now.pass two.exit.now.update }
+            requires { IsSync R.row × FitsStation station.now one.now.pass one.now.update × FitsStation station.now two.now.pass two.now.update }
+            ensures { FitsStation station.entry.now one.exit.now.pass one.exit.now.update × FitsStation station.entry.now two.exit.now.pass two.exit.now.update }
         { work_both(rt, alloc, station, one, two, commits) },
     );
 }

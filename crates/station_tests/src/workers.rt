@@ -1,7 +1,7 @@
 //! An updater and a conductor at work: each has its pass, and what it was answered.
 ghost use Rattle.std.specs.Prelude.{◌≡◌};
 ghost use Rattle.station.specs.PassStates.{with_seen};
-ghost use Rattle.station_tests.specs.Workers.{IsReady};
+ghost use Rattle.station_tests.specs.Workers.{FitsStation};
 
 use air_history::{Event, Update};
 use station::{ConductorPass, Station, UpdaterPass};
@@ -34,8 +34,8 @@ pub struct Conductor {
 impl Worker {
     /// Makes this number of commits, and keeps their receipts: fewer where memory ends.
     pub fn commit_all<R: Wait>(&mut self, wait: &R, alloc: Global, station: &Station, commits: u32)
-        requires ready { IsReady station.now self.old.pass self.old.update }
-        ensures ready { IsReady station.now self.new.pass self.new.update }
+        requires ready { FitsStation station.now self.old.pass self.old.update }
+        ensures ready { FitsStation station.now self.new.pass self.new.update }
     {
         for _ in 0..commits {
             if self.pass.made() == u32::MAX {

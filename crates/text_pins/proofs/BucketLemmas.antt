@@ -3,11 +3,11 @@ use Rattle.std.proofs.Common.{◌≡◌, ◌≤◌, ◌<◌, ◌++◌, ◌∷◌
 use Rattle.std.proofs.lemmas.List.Elements.{All-from_recursion}
 use Rattle.air_history.specs.Ages.{capped}
 use Rattle.air_model.specs.Buckets.{Bucket, IsInRange, capped_body, capped_bucket, capped_entries, spelling, kind_of, count_of, item_of, value_of, entries_of, entry_bytes}
-use Rattle.text_pins.specs.SmallBuckets.{aged, aged_bytes, idle, idle_bytes, varied}
+use Rattle.text_pins.specs.SmallBuckets.{aged, bytes_with_ages, idle_bucket, idle_bytes, varied}
 
 -- ---- the idle slot has 24 bytes, and what is written to the front of 25 leaves the last
 
-idle_in_range : IsInRange (capped_bucket idle)
+idle_in_range : IsInRange (capped_bucket idle_bucket)
 unfolding capped_body kind_of count_of item_of value_of entries_of
 idle_in_range = record {
   version = inl refl;
@@ -23,14 +23,14 @@ idle_in_range = record {
   told = λ _ k d below. absurd (omega arith);
 }
 
-pub slot_in_range : (b : Bucket) → b ≡ idle → IsInRange (capped_bucket b)
+pub slot_in_range : (b : Bucket) → b ≡ idle_bucket → IsInRange (capped_bucket b)
 slot_in_range b is = subst (λ v. IsInRange (capped_bucket v)) (sym is) idle_in_range
 
-pub slot_has_room : (b : Bucket) (out : List ℕ) → b ≡ idle → out ≡ idle_bytes ++ 9 ∷ [] → length (spelling b) ≤ length out
+pub slot_has_room : (b : Bucket) (out : List ℕ) → b ≡ idle_bucket → out ≡ idle_bytes ++ 9 ∷ [] → length (spelling b) ≤ length out
 unfolding spelling kind_of count_of item_of value_of entries_of
 slot_has_room b out is given = rw is (rw given (omega arith))
 
-pub slot_written : (b : Bucket) (out new : List ℕ) (n : ℕ) → b ≡ idle → out ≡ idle_bytes ++ 9 ∷ [] → n ≡ length (spelling b)
+pub slot_written : (b : Bucket) (out new : List ℕ) (n : ℕ) → b ≡ idle_bucket → out ≡ idle_bytes ++ 9 ∷ [] → n ≡ length (spelling b)
     → new ≡ spelling (capped_bucket b) ++ drop n out → new ≡ idle_bytes ++ 9 ∷ []
 unfolding spelling capped_body kind_of count_of item_of value_of entries_of
 slot_written b out new n is given =
@@ -75,8 +75,8 @@ pub aged_has_room : (b : Bucket) (out : List ℕ) → b ≡ too_old → out ≡ 
 aged_has_room b out is given = rw (aged_size b is) (rw given (omega arith))
 
 pub aged_written : (b : Bucket) (out new : List ℕ) (n : ℕ) → b ≡ too_old → out ≡ idle_bytes ++ 9 ∷ 9 ∷ [] → n ≡ length (spelling b)
-    → new ≡ spelling (capped_bucket b) ++ drop n out → new ≡ aged_bytes 1 44 (254 ∷ 255 ∷ [])
+    → new ≡ spelling (capped_bucket b) ++ drop n out → new ≡ bytes_with_ages 1 44 (254 ∷ 255 ∷ [])
 unfolding spelling entry_bytes capped_body capped_entries capped kind_of count_of item_of value_of entries_of
 aged_written b out new n is given =
-    let P : Bucket → Type 0 = λ v. n ≡ length (spelling v) → new ≡ spelling (capped_bucket v) ++ drop n out → new ≡ aged_bytes 1 44 (254 ∷ 255 ∷ [])
+    let P : Bucket → Type 0 = λ v. n ≡ length (spelling v) → new ≡ spelling (capped_bucket v) ++ drop n out → new ≡ bytes_with_ages 1 44 (254 ∷ 255 ∷ [])
     in subst P (sym is) (λ len written. written ∙ rw len (rw given refl))

@@ -1,7 +1,6 @@
 -- The smallest deck, what is no query, and what is said of a reader or an item that a deck doesn't have.
-use Rattle.std.proofs.Common.{◌≡◌, ℕ, ◌<◌, ◌≤◌, ◌^◌, false, true, List, [], ◌∷◌, All, refl, inl, sum_by, arith}
+use Rattle.std.proofs.Common.{◌≡◌, ◌<◌, ◌≤◌, ◌^◌, false, true, [], ◌∷◌, All, refl, inl, sum_by, arith}
 use Rattle.std.proofs.lemmas.List.Elements.{All-nil, All-from_recursion}
-use Rattle.std.proofs.lemmas.Bool.{false≢true}
 use Rattle.air_history.specs.UpdateRules.{has_repeat}
 use Rattle.air_model.specs.Airings.{chunks_of, disk_number}
 use Rattle.air_model.specs.Decks.{Deck, IsDeck, IsQuery, IsUpdate}

@@ -16,7 +16,7 @@ use Rattle.item_catalog.specs.declared.faults.DeckError.{DeckError}
 use Rattle.item_catalog.specs.declared.faults.DeckError.TheVariants.{Fault, NoMemory}
 use Rattle.item_catalog.proofs.GrammarLemmas.{no_fault}
 use Rattle.text_pins.proofs.PlaceLemmas.{first_fault, first_fault_of_two, none_before_0, none_before_1, none_before_3}
-use Rattle.text_pins.specs.DeckAnswers.{IsFaultOrNoMemory, committed_twice, unknown_second}
+use Rattle.text_pins.specs.DeckAnswers.{IsDeckFaultOrNoMemory, committed_twice, unknown_second}
 
 -- ---- a text with a fault is answered by it
 
@@ -29,7 +29,7 @@ same_fault text row1 kind1 row2 kind2 first second =
     )
 
 answered : (text : List ℕ) (row kind : ℕ) (result : Result Deck DeckError) → HasFault text row kind → IfOk result (Spells text)
-    → IfErr result (IsErrorOf text) → IsFaultOrNoMemory row kind result
+    → IfErr result (IsErrorOf text) → IsDeckFaultOrNoMemory row kind result
 answered text row kind (Ok deck) has spells told = absurd (no_fault text deck row kind spells has)
 answered text row kind (Err NoMemory) has spells told = inl refl
 answered text row kind (Err (Fault fault)) has spells told =
@@ -37,7 +37,7 @@ answered text row kind (Err (Fault fault)) has spells told =
     inr (ap (λ r. Err (Fault (record { row = r; kind = fault.kind }))) same.0 ∙ ap (λ k. Err (Fault (record { row = row; kind = k }))) same.1)
 
 pub told : (bytes text : List ℕ) (row kind : ℕ) (result : Result Deck DeckError) → bytes ≡ text → HasFault text row kind
-    → IfOk result (Spells bytes) → IfErr result (IsErrorOf bytes) → IsFaultOrNoMemory row kind result
+    → IfOk result (Spells bytes) → IfErr result (IsErrorOf bytes) → IsDeckFaultOrNoMemory row kind result
 told bytes text row kind result is has spells fault =
     answered bytes row kind result (subst (λ t. HasFault t row kind) (sym is) has) spells fault
 

@@ -1,5 +1,5 @@
 -- The kinds that apply to declarations at the ends of limits and at the first of several, and settings by their words.
-use Rattle.std.proofs.Common.{◌≡◌, ◌||◌, ◌+◌, ◌-◌, ◌^◌, ℕ, List, [], ◌∷◌, Some, None, true, false, Bool, Option, length, replicate, refl}
+use Rattle.std.proofs.Common.{◌≡◌, ◌-◌, ◌^◌, ℕ, List, [], ◌∷◌, Some, None, true, false, Bool, Option, length, replicate, refl}
 use Rattle.std.proofs.Math.Bool.{or-true}
 use Rattle.std.specs.Prelude.{codes}
 use Rattle.air_base.specs.Numbers.{number_of}
@@ -36,8 +36,8 @@ pub record AtLimits : Type 0 where
   seventeen_reads : kinds (update_tests 17 0 0 seventeen (to_three None ∷ [])) ≡ 7 ∷ []
   first_base_unread : kinds (update_tests 5 0 0 [] (to_three (Some 4) ∷ [])) ≡ 8 ∷ []
   own_item_undeclared : write_reaches 3 (to_three None) ≡ true
-  ninth_disk : kinds (tests_of (replicate 8 (e.Disk 1 None)) (e.Disk 1 None)) ≡ 7 ∷ []
-  reader_too_many : kinds (tests_of (replicate 64 (e.Reader 0 0 1)) (e.Reader 0 0 1)) ≡ 7 ∷ []
+  ninth_disk : kinds (tests_of (replicate 8 (e.DeclaredDisk 1 None)) (e.DeclaredDisk 1 None)) ≡ 7 ∷ []
+  reader_too_many : kinds (tests_of (replicate 64 (e.DeclaredReader 0 0 1)) (e.DeclaredReader 0 0 1)) ≡ 7 ∷ []
   -- updater 16 has no number, and none of the sixteen commits too often
   seventeenth_updater : kinds (script_tests (λ by. 0) [] (Some 16 ∷ [])) ≡ 7 ∷ []
   -- it is the new events whose updaters are judged
@@ -66,10 +66,10 @@ start_too_many : (script : List (Option ℕ)) → count_starts script ≡ 10000 
 start_too_many script all = rw all (or-true _)
 
 pub record FirstOfAll : Type 0 where
-  a_query : count_queries (e.Query 0 [] ∷ []) ≡ 1
-  its_items : queries_in (e.Query 0 (1 ∷ []) ∷ []) 0 ≡ (1 ∷ []) ∷ []
-  a_reader : readers_in (e.Reader 1 2 3 ∷ []) ≡ record { room = 1; age = 2; tries = 3 } ∷ []
-  a_script : script_in (e.Script (None ∷ []) ∷ []) ≡ None ∷ []
+  a_query : count_queries (e.DeclaredQuery 0 [] ∷ []) ≡ 1
+  its_items : queries_in (e.DeclaredQuery 0 (1 ∷ []) ∷ []) 0 ≡ (1 ∷ []) ∷ []
+  a_reader : readers_in (e.DeclaredReader 1 2 3 ∷ []) ≡ record { room = 1; age = 2; tries = 3 } ∷ []
+  a_script : script_in (e.DeclaredScript (None ∷ []) ∷ []) ≡ None ∷ []
 
 first_of_all : FirstOfAll
 first_of_all = record { a_query = refl; its_items = refl; a_reader = refl; a_script = refl }

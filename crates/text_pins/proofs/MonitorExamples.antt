@@ -1,8 +1,7 @@
 -- What monitors of a history without events may have seen, and what they may not.
-use Rattle.std.proofs.Common.{◌≡◌, ℕ, List, [], ◌∷◌, length, refl, ap, arith}
+use Rattle.std.proofs.Common.{◌≡◌, ℕ, [], ◌∷◌, length, refl, ap, arith}
 use Rattle.air_history.specs.Histories.{front}
 use Rattle.air_history.specs.Tables.{table}
-use Rattle.air_model.specs.Decks.{Deck}
 use Rattle.air_model.specs.MonitorSights.{AreGlances, IsSeen}
 use Rattle.air_model.specs.Reports.{total_at}
 use Rattle.air_model.specs.declared.reports.LookLine.{LookLine}

@@ -3,16 +3,16 @@ use Rattle.std.specs.Prelude.{◌≡◌, ◌⊎◌, ◌++◌, ℕ, List, Result,
 use Rattle.air_model.specs.Decks.{Deck}
 use Rattle.item_catalog.specs.declared.faults.DeckError.{DeckError}
 use Rattle.item_catalog.specs.declared.faults.DeckError.TheVariants.{Fault, NoMemory}
-use Rattle.text_pins.specs.SmallReports.{line}
+use Rattle.text_pins.specs.SmallReports.{with_newline}
 
 -- The answer is this fault, where there was memory.
-abbrev pub IsFaultOrNoMemory : ℕ → ℕ → Result Deck DeckError → Type 0
-IsFaultOrNoMemory row kind result = (result ≡ Err NoMemory) ⊎ (result ≡ Err (Fault (record { row = row; kind = kind })))
+abbrev pub IsDeckFaultOrNoMemory : ℕ → ℕ → Result Deck DeckError → Type 0
+IsDeckFaultOrNoMemory row kind result = (result ≡ Err NoMemory) ⊎ (result ≡ Err (Fault (record { row = row; kind = kind })))
 
 -- A deck of one item with one update, which two records of the script commit.
 abbrev pub committed_twice : List ℕ
-committed_twice = line (codes "item,0,5,1") ++ line (codes "update,0,,0=6") ++ line (codes "script,0") ++ line (codes "script,0")
+committed_twice = with_newline (codes "item,0,5,1") ++ with_newline (codes "update,0,,0=6") ++ with_newline (codes "script,0") ++ with_newline (codes "script,0")
 
 -- An item, and a record of an unknown tag.
 abbrev pub unknown_second : List ℕ
-unknown_second = line (codes "item,0,5,1") ++ line (codes "items,1")
+unknown_second = with_newline (codes "item,0,5,1") ++ with_newline (codes "items,1")

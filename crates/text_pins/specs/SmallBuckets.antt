@@ -4,8 +4,8 @@ use Rattle.air_model.specs.Buckets.{Bucket, Column, Idle, Vector}
 use Rattle.air_model.specs.Tapes.{TapeRead}
 
 -- An idle slot of a program of two items.
-abbrev pub idle : Bucket
-idle = record { version = 1; edition = 0; cycle = 3; slot = 2; body = Idle 2 }
+abbrev pub idle_bucket : Bucket
+idle_bucket = record { version = 1; edition = 0; cycle = 3; slot = 2; body = Idle 2 }
 
 abbrev pub idle_bytes : List ℕ
 idle_bytes = 0x41 ∷ 0x44 ∷ 1 ∷ 0 ∷ 0 ∷ 0 ∷ 0 ∷ 2 ∷ 0 ∷ 0 ∷ 0 ∷ 3 ∷ 0 ∷ 2 ∷ 0xff ∷ 0xff ∷ 0 ∷ 0 ∷ 0 ∷ 0 ∷ 0 ∷ 0 ∷ 0 ∷ 0 ∷ []
@@ -23,8 +23,8 @@ abbrev pub aged : List ℕ → Bucket
 aged entries = record { version = 2; edition = 0; cycle = 300; slot = 0; body = Column 0 10 entries }
 
 -- The bytes of one in the cycle of a high and a low byte, with these bytes after the head.
-abbrev pub aged_bytes : ℕ → ℕ → List ℕ → List ℕ
-aged_bytes high low ages = 0x41 ∷ 0x44 ∷ 2 ∷ 1 ∷ 0 ∷ 0 ∷ 0 ∷ 2 ∷ 0 ∷ 0 ∷ high ∷ low ∷ 0 ∷ 0 ∷ 0 ∷ 0 ∷ 0 ∷ 0 ∷ 0 ∷ 0 ∷ 0 ∷ 0 ∷ 0 ∷ 0x0a ∷ ages
+abbrev pub bytes_with_ages : ℕ → ℕ → List ℕ → List ℕ
+bytes_with_ages high low ages = 0x41 ∷ 0x44 ∷ 2 ∷ 1 ∷ 0 ∷ 0 ∷ 0 ∷ 2 ∷ 0 ∷ 0 ∷ high ∷ low ∷ 0 ∷ 0 ∷ 0 ∷ 0 ∷ 0 ∷ 0 ∷ 0 ∷ 0 ∷ 0 ∷ 0 ∷ 0 ∷ 0x0a ∷ ages
 
 -- Of these bytes one is another.
 abbrev pub but : List ℕ → ℕ → ℕ → List ℕ

@@ -13,17 +13,17 @@ abbrev pub one_write : Write → Bool → WritesSeen
 one_write write unread = record { writes = write ∷ []; undeclared = false; repeated = false; unread = unread }
 
 -- Item `item` becomes its base and this amount.
-abbrev pub add_to : ℕ → ℕ → ℕ → Write
-add_to item base amount = record { item = item; base = Some base; minus = false; amount = amount }
+abbrev pub write_from_base : ℕ → ℕ → ℕ → Write
+write_from_base item base amount = record { item = item; base = Some base; minus = false; amount = amount }
 
 -- An update that reads nothing, and sets an item to an amount.
-abbrev set_to : ℕ → ℕ → UpdateLists
-set_to item amount = record { reads = []; writes = record { item = item; base = None; minus = false; amount = amount } ∷ [] }
+abbrev blind_write : ℕ → ℕ → UpdateLists
+blind_write item amount = record { reads = []; writes = record { item = item; base = None; minus = false; amount = amount } ∷ [] }
 
 -- Item 0 becomes 5.
 abbrev pub setting_first : UpdateLists
-setting_first = set_to 0 5
+setting_first = blind_write 0 5
 
 -- Item 1 becomes 6.
 abbrev pub setting_second : UpdateLists
-setting_second = set_to 1 6
+setting_second = blind_write 1 6

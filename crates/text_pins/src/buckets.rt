@@ -1,10 +1,10 @@
 //! These pins fix what `bucket_codec` answers for small buckets and short tapes, byte by byte.
 //! They encode, measure and decode buckets, and they read and write the records of tapes.
 
-ghost use Rattle.std.specs.Prelude.{◌≡◌, ◌++◌, [], ◌∷◌, Ok, Err, None, Some};
+ghost use Rattle.std.specs.Prelude.{◌≡◌, ◌++◌, [], ◌∷◌, Err};
 ghost use Rattle.air_model.specs.Buckets.{Bucket};
 ghost use Rattle.bucket_codec.specs.BucketsToAir.{bucket_to_air};
-ghost use Rattle.text_pins.specs.SmallBuckets.{aged, aged_bytes, but, column_bytes, cut_at_byte, idle, idle_bytes, varied};
+ghost use Rattle.text_pins.specs.SmallBuckets.{aged, but, bytes_with_ages, column_bytes, cut_at_byte, idle_bucket, idle_bytes, varied};
 
 use air_model::bucket::BucketFault;
 use bucket_codec::{
@@ -43,7 +43,7 @@ pub fn length_always_four(bytes: &[u8], out: &mut [u8]) -> usize
 /// The byte after a bucket stays as it was.
 #[tactic(auto, using(crate::proofs::BucketLemmas::slot_has_room))]
 pub fn encode_touches_bytes_behind(bucket: &Bucket<'_>, out: &mut [u8]) -> usize
-    requires bucket { bucket_to_air bucket.now ≡ idle }
+    requires bucket { bucket_to_air bucket.now ≡ idle_bucket }
     requires out { out.old ≡ idle_bytes ++ 9 ∷ [] }
     ensures { out.new ≡ idle_bytes ++ 9 ∷ [] }
 {
@@ -114,7 +114,7 @@ pub fn slot_read_from_the_item(view: &BucketView<'_>) -> u16
 pub fn cap_one_cycle_early(bucket: &Bucket<'_>, out: &mut [u8]) -> usize
     requires bucket { bucket_to_air bucket.now ≡ aged (46 ∷ 45 ∷ []) }
     requires out { out.old ≡ idle_bytes ++ 9 ∷ 9 ∷ [] }
-    ensures { out.new ≡ aged_bytes 1 44 (254 ∷ 255 ∷ []) }
+    ensures { out.new ≡ bytes_with_ages 1 44 (254 ∷ 255 ∷ []) }
 {
     encode(bucket, out)
 }
@@ -130,7 +130,7 @@ pub fn ages_measured_as_entries(bucket: &Bucket<'_>) -> usize
 
 /// No entry is of the bucket's own cycle, so there is no age 0.
 pub fn age_0_let_through<'a>(bytes: &'a [u8]) -> Result<BucketView<'a>, BucketFault>
-    requires { bytes.now ≡ aged_bytes 0 3 (0 ∷ 255 ∷ []) }
+    requires { bytes.now ≡ bytes_with_ages 0 3 (0 ∷ 255 ∷ []) }
     ensures { result ≡ Err BucketFault.Shape }
 {
     decode(bytes)
@@ -138,7 +138,7 @@ pub fn age_0_let_through<'a>(bytes: &'a [u8]) -> Result<BucketView<'a>, BucketFa
 
 /// The entry 0 is told by 255 alone, so no age is the cycle.
 pub fn age_equal_to_the_cycle<'a>(bytes: &'a [u8]) -> Result<BucketView<'a>, BucketFault>
-    requires { bytes.now ≡ aged_bytes 0 3 (2 ∷ 3 ∷ []) }
+    requires { bytes.now ≡ bytes_with_ages 0 3 (2 ∷ 3 ∷ []) }
     ensures { result ≡ Err BucketFault.Shape }
 {
     decode(bytes)
@@ -147,7 +147,7 @@ pub fn age_equal_to_the_cycle<'a>(bytes: &'a [u8]) -> Result<BucketView<'a>, Buc
 /// Four bytes for each of two entries are too many.
 #[tactic(auto, unfolding(air_model::specs::Buckets::reading, air_model::specs::Buckets::entry_count))]
 pub fn ages_of_four_bytes<'a>(bytes: &'a [u8]) -> Result<BucketView<'a>, BucketFault>
-    requires { bytes.now ≡ aged_bytes 0 3 (0 ∷ 0 ∷ 0 ∷ 1 ∷ 0 ∷ 0 ∷ 0 ∷ 1 ∷ []) }
+    requires { bytes.now ≡ bytes_with_ages 0 3 (0 ∷ 0 ∷ 0 ∷ 1 ∷ 0 ∷ 0 ∷ 0 ∷ 1 ∷ []) }
     ensures { result ≡ Err BucketFault.Length }
 {
     decode(bytes)

@@ -2,8 +2,7 @@
 //! They also fix the queries of a drill's deck, the updates of an updater, and what every deck keeps.
 
 ghost use Rattle.std.specs.Prelude.{◌≡◌, ◌≤◌, [], ◌∷◌, codes, get_or, length, sum_by, IfOk};
-ghost use Rattle.air_history.specs.UpdateLists.{UpdateLists};
-ghost use Rattle.text_pins.specs.DeckAnswers.{IsFaultOrNoMemory, committed_twice, unknown_second};
+ghost use Rattle.text_pins.specs.DeckAnswers.{IsDeckFaultOrNoMemory, committed_twice, unknown_second};
 ghost use Rattle.text_pins.specs.SmallWrites.{setting_first, setting_second};
 
 use air_base::NoMemory;
@@ -15,7 +14,7 @@ use std::alloc::Global;
 /// Copies of 10,001 cycles pass a limit.
 pub fn copies_one_cycle_too_old(alloc: Global, bytes: &[u8]) -> Result<Deck, DeckError>
     requires { bytes.now ≡ codes "reader,0,10001,1" }
-    ensures { IsFaultOrNoMemory 1 7 result }
+    ensures { IsDeckFaultOrNoMemory 1 7 result }
 {
     read_deck(alloc, bytes)
 }
@@ -23,7 +22,7 @@ pub fn copies_one_cycle_too_old(alloc: Global, bytes: &[u8]) -> Result<Deck, Dec
 /// The commits of all records of the script count.
 pub fn earlier_script_records_forgotten(alloc: Global, bytes: &[u8]) -> Result<Deck, DeckError>
     requires { bytes.now ≡ committed_twice }
-    ensures { IsFaultOrNoMemory 4 11 result }
+    ensures { IsDeckFaultOrNoMemory 4 11 result }
 {
     read_deck(alloc, bytes)
 }
@@ -31,7 +30,7 @@ pub fn earlier_script_records_forgotten(alloc: Global, bytes: &[u8]) -> Result<D
 /// The frequency 64 passes no limit; so it is the end that is refused, since the sizes don't add up.
 pub fn greatest_frequency_refused(alloc: Global, bytes: &[u8]) -> Result<Deck, DeckError>
     requires { bytes.now ≡ codes "disk,1,64" }
-    ensures { IsFaultOrNoMemory 2 6 result }
+    ensures { IsDeckFaultOrNoMemory 2 6 result }
 {
     read_deck(alloc, bytes)
 }
@@ -39,7 +38,7 @@ pub fn greatest_frequency_refused(alloc: Global, bytes: &[u8]) -> Result<Deck, D
 /// Of an item with a wrong number and too great a rate the number is told.
 pub fn greatest_kind_for_the_least(alloc: Global, bytes: &[u8]) -> Result<Deck, DeckError>
     requires { bytes.now ≡ codes "item,1,0,1000001" }
-    ensures { IsFaultOrNoMemory 1 3 result }
+    ensures { IsDeckFaultOrNoMemory 1 3 result }
 {
     read_deck(alloc, bytes)
 }
@@ -47,7 +46,7 @@ pub fn greatest_kind_for_the_least(alloc: Global, bytes: &[u8]) -> Result<Deck, 
 /// Records are counted from 1.
 pub fn record_before_the_faulty_one(alloc: Global, bytes: &[u8]) -> Result<Deck, DeckError>
     requires { bytes.now ≡ unknown_second }
-    ensures { IsFaultOrNoMemory 2 9 result }
+    ensures { IsDeckFaultOrNoMemory 2 9 result }
 {
     read_deck(alloc, bytes)
 }
@@ -55,7 +54,7 @@ pub fn record_before_the_faulty_one(alloc: Global, bytes: &[u8]) -> Result<Deck,
 /// A setting without a value has too few fields, before its name is looked at.
 pub fn setting_checked_before_its_fields(alloc: Global, bytes: &[u8]) -> Result<Deck, DeckError>
     requires { bytes.now ≡ codes "set,delta" }
-    ensures { IsFaultOrNoMemory 1 1 result }
+    ensures { IsDeckFaultOrNoMemory 1 1 result }
 {
     read_deck(alloc, bytes)
 }

@@ -4,7 +4,7 @@
 ghost use Rattle.std.specs.Prelude.{◌≡◌, [], ◌∷◌, IfOk};
 ghost use Rattle.air_base.specs.declared.verdicts.Policy.TheVariants.{FMatrix};
 ghost use Rattle.air_model.specs.Draws.{generator};
-ghost use Rattle.text_pins.specs.SmallWrites.{add_to};
+ghost use Rattle.text_pins.specs.SmallWrites.{write_from_base};
 
 use air_base::NoMemory;
 use air_history::Update;
@@ -30,7 +30,7 @@ pub fn base_among_the_written(
     words: Lcg64Xsh32,
 ) -> Result<(Update, Lcg64Xsh32), NoMemory>
     requires { words ≡ generator 3 1 }
-    ensures { IfOk result (λ drawn. drawn.0 ≡ record { reads = 4 ∷ 0 ∷ []; writes = add_to 0 4 97 ∷ add_to 1 0 49 ∷ [] }) }
+    ensures { IfOk result (λ drawn. drawn.0 ≡ record { reads = 4 ∷ 0 ∷ []; writes = write_from_base 0 4 97 ∷ write_from_base 1 0 49 ∷ [] }) }
 {
     draw_update(alloc, words, 5)
 }

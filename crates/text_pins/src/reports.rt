@@ -3,7 +3,7 @@
 
 ghost use Rattle.std.specs.Prelude.{◌≡◌, ◌++◌, [], codes, true, IfOk, OnOk};
 ghost use Rattle.csv.specs.Writing.{default_writer, with_flexible, writer_setup};
-ghost use Rattle.text_pins.specs.SmallReports.{line, of_a_glance_and_a_look, of_a_start, of_an_abort, of_an_aged_attempt, of_counts, of_two_events};
+ghost use Rattle.text_pins.specs.SmallReports.{of_a_glance_and_a_look, of_a_start, of_an_abort, of_an_aged_attempt, of_counts, of_two_events, with_newline};
 
 use air_base::NoMemory;
 use air_report::{Report, Status, refusal_line, row_writer, write_report};
@@ -22,7 +22,7 @@ pub fn rows_of_one_length(text: Vec<u8>) -> Writer<Vec<u8>>
 pub fn by_and_seq_swapped(alloc: Global, report: &Report, out: &mut Vec<u8>) -> Result<(), NoMemory>
     requires report { report.now ≡ of_two_events }
     requires out { out.old.items ≡ [] }
-    ensures { OnOk result (out.new.items ≡ line (codes "start") ++ line (codes "commit,1,0")) }
+    ensures { OnOk result (out.new.items ≡ with_newline (codes "start") ++ with_newline (codes "commit,1,0")) }
 {
     write_report(alloc, report, out)
 }
@@ -37,7 +37,7 @@ pub fn attempt_told_as_query(
 ) -> Result<(), NoMemory>
     requires report { report.now ≡ of_an_abort }
     requires out { out.old.items ≡ [] }
-    ensures { OnOk result (out.new.items ≡ line (codes "abort,0,1,2,3@4=9 7@4=8,5@6,7")) }
+    ensures { OnOk result (out.new.items ≡ with_newline (codes "abort,0,1,2,3@4=9 7@4=8,5@6,7")) }
 {
     write_report(alloc, report, out)
 }
@@ -51,7 +51,7 @@ pub fn aged_told_as_an_abort(
 ) -> Result<(), NoMemory>
     requires report { report.now ≡ of_an_aged_attempt }
     requires out { out.old.items ≡ [] }
-    ensures { OnOk result (out.new.items ≡ line (codes "aged,0,1,2,3@4=9 7@4=8,5@6")) }
+    ensures { OnOk result (out.new.items ≡ with_newline (codes "aged,0,1,2,3@4=9 7@4=8,5@6")) }
 {
     write_report(alloc, report, out)
 }
@@ -65,7 +65,7 @@ pub fn refused_told_as_late(
 ) -> Result<(), NoMemory>
     requires report { report.now ≡ of_counts }
     requires out { out.old.items ≡ [] }
-    ensures { OnOk result (out.new.items ≡ line (codes "counts,0,1,2,3,4,5,6")) }
+    ensures { OnOk result (out.new.items ≡ with_newline (codes "counts,0,1,2,3,4,5,6")) }
 {
     write_report(alloc, report, out)
 }
@@ -79,7 +79,7 @@ pub fn glances_written_as_looks(
 ) -> Result<(), NoMemory>
     requires report { report.now ≡ of_a_glance_and_a_look }
     requires out { out.old.items ≡ [] }
-    ensures { OnOk result (out.new.items ≡ line (codes "glance,0,1,30") ++ line (codes "look,0,2,31")) }
+    ensures { OnOk result (out.new.items ≡ with_newline (codes "glance,0,1,30") ++ with_newline (codes "look,0,2,31")) }
 {
     write_report(alloc, report, out)
 }
@@ -92,8 +92,8 @@ pub fn report_in_place_of_the_text(
     out: &mut Vec<u8>,
 ) -> Result<(), NoMemory>
     requires report { report.now ≡ of_a_start }
-    requires out { out.old.items ≡ line (codes "ok") }
-    ensures { OnOk result (out.new.items ≡ line (codes "ok") ++ line (codes "start")) }
+    requires out { out.old.items ≡ with_newline (codes "ok") }
+    ensures { OnOk result (out.new.items ≡ with_newline (codes "ok") ++ with_newline (codes "start")) }
 {
     write_report(alloc, report, out)
 }
@@ -102,7 +102,7 @@ pub fn report_in_place_of_the_text(
 #[tactic(auto, unfolding(air_model::specs::Rows::rows_text, air_base::specs::Numbers::number_text, csv::specs::Writing::fields_text, csv::specs::Writing::is_blank))]
 pub fn cut_told_as_too_large(alloc: Global, status: &Status) -> Result<Vec<u8>, NoMemory>
     requires { status.now ≡ Status.TapeCut 36 }
-    ensures { IfOk result (λ text. text.items ≡ line (codes "fault,6,36")) }
+    ensures { IfOk result (λ text. text.items ≡ with_newline (codes "fault,6,36")) }
 {
     refusal_line(alloc, status)
 }

@@ -3,7 +3,6 @@
 //! A monitor may see more than it was told, so some hold for one list that it may have seen.
 
 ghost use Rattle.std.specs.Prelude.{◌≡◌, ◌≤◌, ◌<◌, [], ◌∷◌, length, IfOk, OnOk};
-ghost use Rattle.air_history.specs.declared.histories.Event.TheVariants.{Start};
 ghost use Rattle.thread_pins.specs.SmallBatches.{first_values, first_batch, second_batch};
 
 use air_base::NoMemory;

@@ -8,7 +8,7 @@ use native.Mathlib.Decide.{ℕ_discrete}
 use lib.ListN.{get_elem?}
 use Rattle.atomic_table.specs.Table.{State, Final, Seen}
 use Rattle.turnstile.specs.declared.views.View.{View}
-use Rattle.turnstile.specs.Private.TurnstileRule.{Phase, home, out, InPhase, Kept}
+use Rattle.turnstile.specs.Private.TurnstileRule.{Phase, home, out, InPhase, IsByRule}
 use Rattle.turnstile.proofs.Numbers.{some_number}
 use Rattle.turnstile.proofs.EntryLists.{seen_whole}
 use Rattle.turnstile.proofs.RuleLemmas.{below_of, shared_no}
@@ -17,7 +17,7 @@ module _ {K E B : Type 0} (entries : K → List (ℕ × E)) (base : K → B) whe
   abbrev V : Type 0
   V = View E B
 
-  at_home : (s : State (Option K) V) (r : Kept entries base s) (id : ℕ) (v : V) → get_elem? s.views id ≡ some v → v.ticket ≡ None → 0 < length v.sight.numbers → ((m : ℕ) → m < v.passes → Contains v.sight.numbers m)
+  at_home : (s : State (Option K) V) (r : IsByRule entries base s) (id : ℕ) (v : V) → get_elem? s.views id ≡ some v → v.ticket ≡ None → 0 < length v.sight.numbers → ((m : ℕ) → m < v.passes → Contains v.sight.numbers m)
       → (ph : Phase) → InPhase entries base s.homes s.views r.now r.based ph → r.phase ≡ ph → (x : K) × (s.homes ≡ some (Some x) ∷ []) × (entries x ≡ r.now) × (base x ≡ r.based)
   at_home s r id v at free live all home p is = p
   at_home s r id v at free live all (out j) p is = absurd (
@@ -28,9 +28,9 @@ module _ {K E B : Type 0} (entries : K → List (ℕ × E)) (base : K → B) whe
 
   -- with all numbers in one seat the slot is at home, with the list that was seen
   pub closes : (id : ℕ) (v : V) (ws : List ℕ) (xs : List (Option K)) → v.ticket ≡ None → 0 < length v.sight.numbers → ((m : ℕ) → m < v.passes → Contains v.sight.numbers m)
-      → Final (Seen (Kept entries base) id v) ws xs → (x : K) × (get_elem? xs 0 ≡ some (Some x)) × (entries x ≡ v.sight.entries) × (v.base ≡ Some (base x))
+      → Final (Seen (IsByRule entries base) id v) ws xs → (x : K) × (get_elem? xs 0 ≡ some (Some x)) × (entries x ≡ v.sight.entries) × (v.base ≡ Some (base x))
   closes id v ws xs free live all f =
-      let s : State (Option K) V = f.0 in let r : Kept entries base s = f.1.0 in let at = f.1.1 in let h = at_home s r id v at free live all r.phase r.in_phase refl in
+      let s : State (Option K) V = f.0 in let r : IsByRule entries base s = f.1.0 in let at = f.1.1 in let h = at_home s r id v at free live all r.phase r.in_phase refl in
       let known = r.each_seat id v at in let x : K = h.0 in (
         x,
         f.4 0 (Some x) (ap (λ l. get_elem? l 0) h.1),

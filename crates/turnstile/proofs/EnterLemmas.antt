@@ -15,7 +15,7 @@ module _ {K E B : Type 0} (entries : K → List (ℕ × E)) (base : K → B) whe
   abbrev M : Type 0
   M = Me (Option K) V
 
-  -- what the four steps of `enter` tell: the draw, a loop that leaves the seat, the load that finds the ticket, and the exchange that takes y out
+  -- what the four steps of `enter` tell: the taking of a ticket, a loop that leaves the seat, the load that finds the ticket, and the exchange that takes y out
   pub enters : (m0 m1 m2 m3 : M) (t r : ℕ) → m1 ≡ (record m0.0 { ticket = Some t }, m0.1) → m2 ≡ m1 → IsServed entries base (step 1 1 0 0 none) m2 r m3 → r ≡ t
       → (x : K) × (m3 ≡ (record m0.0 { ticket = Some t; noted = Some (entries x) }, (0, Some x) ∷ [])) × (m0.0.base ≡ Some (base x)) × Continues m0.0.sight.numbers m0.0.sight.entries (entries x)
   enters m0 m1 m2 m3 t r a b told is = let o = (told t (ap (λ (m : M). m.0.ticket) (b ∙ a))).0 is in let same = b ∙ a in (

@@ -12,7 +12,7 @@ use Rattle.turnstile.specs.declared.views.Sight.{Sight}
 use Rattle.turnstile.specs.declared.views.View.{View}
 use Rattle.turnstile.specs.PassEntries.{Continues}
 use Rattle.turnstile.specs.Private.SeatViews.{times, ticket_count, waits, share, union_of, spent_view}
-use Rattle.turnstile.specs.Private.TurnstileRule.{total, Knows, Kept}
+use Rattle.turnstile.specs.Private.TurnstileRule.{total, Knows, IsByRule}
 use Rattle.turnstile.specs.Private.SeatSteps.{HasCompared}
 use Rattle.turnstile.proofs.Totals.{total_set}
 use Rattle.turnstile.proofs.Numbers.{times_append}
@@ -27,7 +27,7 @@ module _ {K E B : Type 0} (entries : K → List (ℕ × E)) (base : K → B) whe
   abbrev M : Type 0
   M = Me (Option K) V
 
-  olds_of : (s : State (Option K) V) (r : Kept entries base s) (id : ℕ) (v : V) (other : ℕ) (w : V) → get_elem? s.views id ≡ some v → get_elem? s.views other ≡ some w → (k : ℕ) (o : Sight E) → get_elem? (v.sight ∷ w.sight ∷ []) k ≡ some o
+  olds_of : (s : State (Option K) V) (r : IsByRule entries base s) (id : ℕ) (v : V) (other : ℕ) (w : V) → get_elem? s.views id ≡ some v → get_elem? s.views other ≡ some w → (k : ℕ) (o : Sight E) → get_elem? (v.sight ∷ w.sight ∷ []) k ≡ some o
       → Continues o.numbers o.entries r.now × ((n : ℕ) → Contains o.numbers n → Contains (v.sight.numbers ++ w.sight.numbers) n)
   olds_of s r id v other w at here zero o e = subst (λ (o : Sight E). Continues o.numbers o.entries r.now × ((n : ℕ) → Contains o.numbers n → Contains (v.sight.numbers ++ w.sight.numbers) n)) (some-injective v.sight o e)
       ((r.each_seat id v at).sees, λ n h. Contains-append_left v.sight.numbers w.sight.numbers n h)
@@ -36,7 +36,7 @@ module _ {K E B : Type 0} (entries : K → List (ℕ × E)) (base : K → B) whe
   olds_of s r id v other w at here (suc (suc k)) o e = absurd (some-ne-none o (sym e))
 
   -- a pass takes in another
-  pub joins : (id : ℕ) (v : V) (other : ℕ) (w : V) → v.ticket ≡ None → v.noted ≡ None → 0 < length v.sight.numbers → w.ticket ≡ None → w.noted ≡ None → Joins (Kept entries base) id v other w (union_of v w) spent_view
+  pub joins : (id : ℕ) (v : V) (other : ℕ) (w : V) → v.ticket ≡ None → v.noted ≡ None → 0 < length v.sight.numbers → w.ticket ≡ None → w.noted ≡ None → Joins (IsByRule entries base) id v other w (union_of v w) spent_view
   joins id v other w free rests live free' rests' s r at differs there =
       let u : V = union_of v w in
       let vs : List V = set s.views id u in
@@ -73,7 +73,7 @@ module _ {K E B : Type 0} (entries : K → List (ℕ × E)) (base : K → B) whe
       (phase_set entries base s.homes vs r.now r.based r.phase other w nothing there rests' (phase_set entries base s.homes s.views r.now r.based r.phase id v u at rests r.in_phase))
 
   -- a load tells how the old lists stand to one another
-  pub compares : (slots id : ℕ) (me : M) → me.0.noted ≡ None → Allows (Kept entries base) slots id me 0 (λ n. n) (HasCompared entries base (step slots 0 0 0 none) me)
+  pub compares : (slots id : ℕ) (me : M) → me.0.noted ≡ None → Allows (IsByRule entries base) slots id me 0 (λ n. n) (HasCompared entries base (step slots 0 0 0 none) me)
   compares slots id me rests s r wide at small =
       let w : V = record me.0 { old = [] } in
       let known = r.each_seat id me.0 at in

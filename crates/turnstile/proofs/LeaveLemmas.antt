@@ -7,7 +7,7 @@ use Rattle.atomic_table.specs.Table.{Me, step, gives, Allows, rest}
 use Rattle.turnstile.specs.declared.views.View.{View}
 use Rattle.turnstile.specs.PassEntries.{Own, Below}
 use Rattle.turnstile.specs.Private.SeatViews.{times, ticket_count, waits, share, give_back}
-use Rattle.turnstile.specs.Private.TurnstileRule.{total, home, Knows, Kept}
+use Rattle.turnstile.specs.Private.TurnstileRule.{total, home, Knows, IsByRule}
 use Rattle.turnstile.specs.Private.SeatSteps.{HasLeft}
 use Rattle.turnstile.proofs.Totals.{total_set, none_in}
 use Rattle.turnstile.proofs.EntryLists.{goes_on, all_seen, below_append, own_below, own_foreign}
@@ -31,7 +31,7 @@ module _ {K E B : Type 0} (entries : K → List (ℕ × E)) (base : K → B) whe
   carried_entries (y ∷ ys) = of_slot y.1
 
   leaves_at : (slots id : ℕ) (v : V) (x : K) (l more : List (ℕ × E)) → v.noted ≡ Some l → entries x ≡ l ++ more → Own v.sight.numbers more → v.base ≡ Some (base x)
-      → Allows (Kept entries base) slots id (v, (0, Some x) ∷ []) 1 (λ n. (n + 1) % 18446744073709551616) (HasLeft entries base (step slots 1 1 0 none) (v, (0, Some x) ∷ []))
+      → Allows (IsByRule entries base) slots id (v, (0, Some x) ∷ []) 1 (λ n. (n + 1) % 18446744073709551616) (HasLeft entries base (step slots 1 1 0 none) (v, (0, Some x) ∷ []))
   leaves_at slots id v x l more notes adds own based s r wide at small =
       let n : ℕ = get_or s.words 1 0 in
       let is : n ≡ r.serving = ap (λ l. get_or l 1 0) r.words_are in
@@ -88,7 +88,7 @@ module _ {K E B : Type 0} (entries : K → List (ℕ × E)) (base : K → B) whe
 
   -- the same for a seat whose slot was filled by an exchange
   pub leaves_filled : (slots id : ℕ) (me me' : M) (x : K) (l more : List (ℕ × E)) → me' ≡ (me.0, (0, Some x) ∷ rest me.1) → me.1 ≡ (0, None) ∷ [] → me.0.noted ≡ Some l → entries x ≡ l ++ more → Own me.0.sight.numbers more → me.0.base ≡ Some (base x)
-      → Allows (Kept entries base) slots id me' 1 (λ n. (n + 1) % 18446744073709551616) (HasLeft entries base (step slots 1 1 0 none) me')
+      → Allows (IsByRule entries base) slots id me' 1 (λ n. (n + 1) % 18446744073709551616) (HasLeft entries base (step slots 1 1 0 none) me')
   leaves_filled slots id me me' x l more is empty notes adds own based =
       let full : me' ≡ (me.0, (0, Some x) ∷ []) = is ∙ ap (λ c. (me.0, (0, Some x) ∷ rest c)) empty in
-      subst (λ (m : M). Allows (Kept entries base) slots id m 1 (λ n. (n + 1) % 18446744073709551616) (HasLeft entries base (step slots 1 1 0 none) m)) (sym full) (leaves_at slots id me.0 x l more notes adds own based)
+      subst (λ (m : M). Allows (IsByRule entries base) slots id m 1 (λ n. (n + 1) % 18446744073709551616) (HasLeft entries base (step slots 1 1 0 none) m)) (sym full) (leaves_at slots id me.0 x l more notes adds own based)

@@ -9,7 +9,7 @@ use Rattle.atomic_table.specs.Table.{State, keeps, stepped}
 use Rattle.atomic_table.proofs.Lists.{at_longer, set_else, set_again}
 use Rattle.turnstile.specs.declared.views.View.{View}
 use Rattle.turnstile.specs.Private.SeatViews.{times, waits, share}
-use Rattle.turnstile.specs.Private.TurnstileRule.{total, once_below, Apart, Phase, home, out, InPhase, Knows, Kept}
+use Rattle.turnstile.specs.Private.TurnstileRule.{total, once_below, HaveOwnTickets, Phase, home, out, InPhase, Knows, IsByRule}
 use Rattle.turnstile.proofs.Totals.{total_at, total_two, total_le}
 use Rattle.turnstile.proofs.Numbers.{times_in, once_low, once_in}
 use Rattle.turnstile.proofs.Tickets.{ticket_count_le}
@@ -35,29 +35,29 @@ module _ {K E B : Type 0} (entries : K → List (ℕ × E)) (base : K → B) whe
   phase_snoc homes vs now b (out j) w p = (p.0, (p.1.0, at_longer vs (w ∷ []) j p.1.0 p.1.1, p.1.2))
 
   -- there are no more tickets out than passes
-  pub few_wait : (s : State (Option K) V) (r : Kept entries base s) → total waits s.views ≤ r.passes
+  pub few_wait : (s : State (Option K) V) (r : IsByRule entries base s) → total waits s.views ≤ r.passes
   few_wait s r = let a = total_le waits share s.views (λ j v at. ticket_count_le v.ticket (length v.sight.numbers) (λ t e. ((r.each_seat j v at).queues t e).0)) in let b = r.dealt in omega arith
 
-  pub below_of : (s : State (Option K) V) (r : Kept entries base s) (id : ℕ) (v : V) (m : ℕ) → get_elem? s.views id ≡ some v → Contains v.sight.numbers m → m < r.passes
+  pub below_of : (s : State (Option K) V) (r : IsByRule entries base s) (id : ℕ) (v : V) (m : ℕ) → get_elem? s.views id ≡ some v → Contains v.sight.numbers m → m < r.passes
   below_of s r id v m at h = let a = total_at (λ (z : V). times m z.sight.numbers) s.views id v at in let t = times_in m v.sight.numbers h in let b = r.once m in once_in m r.passes (omega arith)
 
   -- no two seats have one number
-  pub shared_no : (s : State (Option K) V) (r : Kept entries base s) (i j : ℕ) (v u : V) (m : ℕ) → i ≢ j → get_elem? s.views i ≡ some v → get_elem? s.views j ≡ some u → Contains v.sight.numbers m → Contains u.sight.numbers m → ⊥
+  pub shared_no : (s : State (Option K) V) (r : IsByRule entries base s) (i j : ℕ) (v u : V) (m : ℕ) → i ≢ j → get_elem? s.views i ≡ some v → get_elem? s.views j ≡ some u → Contains v.sight.numbers m → Contains u.sight.numbers m → ⊥
   shared_no s r i j v u m apart a b h k = let t = total_two (λ (z : V). times m z.sight.numbers) s.views i j v u apart a b in let x = times_in m v.sight.numbers h in let y = times_in m u.sight.numbers k in let o = r.once m in let l = once_low m r.passes in omega arith
 
   -- a load of which nothing comes
-  pub stays : (s : State (Option K) V) (i id : ℕ) (c : List (ℕ × Option K)) (v : V) → Kept entries base s → get_elem? s.views id ≡ some v → Kept entries base (stepped s i (get_or s.words i 0) id c v keeps)
-  stays s i id c v r at = subst (λ (x : List ℕ × List V). Kept entries base record { words = x.0; homes = s.homes; views = x.1 }) (λ k. (sym (set-get_or s.words i 0) k, sym (set_again s.views id v at) k)) r
+  pub stays : (s : State (Option K) V) (i id : ℕ) (c : List (ℕ × Option K)) (v : V) → IsByRule entries base s → get_elem? s.views id ≡ some v → IsByRule entries base (stepped s i (get_or s.words i 0) id c v keeps)
+  stays s i id c v r at = subst (λ (x : List ℕ × List V). IsByRule entries base record { words = x.0; homes = s.homes; views = x.1 }) (λ k. (sym (set-get_or s.words i 0) k, sym (set_again s.views id v at) k)) r
 
-  pub out_of : (s : State (Option K) V) (r : Kept entries base s) (id : ℕ) → r.phase ≡ out id → s.homes ≡ none ∷ []
+  pub out_of : (s : State (Option K) V) (r : IsByRule entries base s) (id : ℕ) → r.phase ≡ out id → s.homes ≡ none ∷ []
   out_of s r id is = (subst (InPhase entries base s.homes s.views r.now r.based) is r.in_phase).0
 
   -- The rule stays where seats change and as many tickets are out: the words are as they were, each number is in one
   -- seat, and each seat knows what it has to.
-  pub reseated : (s : State (Option K) V) (r : Kept entries base s) (words : List ℕ) (homes : List (maybe.Option (Option K))) (vs : List V) (ph : Phase)
+  pub reseated : (s : State (Option K) V) (r : IsByRule entries base s) (words : List ℕ) (homes : List (maybe.Option (Option K))) (vs : List V) (ph : Phase)
       → words ≡ s.words → total waits vs ≡ total waits s.views → total share vs ≡ r.passes → ((m : ℕ) → total (λ v. times m v.sight.numbers) vs ≡ once_below m r.passes)
-      → ((j : ℕ) (u : V) → get_elem? vs j ≡ some u → Knows entries base r.now r.based r.passes r.serving (total waits s.views) ph j u) → Apart vs
-      → InPhase entries base homes vs r.now r.based ph → Kept entries base record { words = words; homes = homes; views = vs }
+      → ((j : ℕ) (u : V) → get_elem? vs j ≡ some u → Knows entries base r.now r.based r.passes r.serving (total waits s.views) ph j u) → HaveOwnTickets vs
+      → InPhase entries base homes vs r.now r.based ph → IsByRule entries base record { words = words; homes = homes; views = vs }
   reseated s r words homes vs ph same many dealt once knows apart placed = record {
     next = r.next;
     serving = r.serving;

@@ -6,7 +6,7 @@ use Rattle.atomic_table.specs.Table.{Splits}
 use Rattle.atomic_table.proofs.Lists.{at_snoc}
 use Rattle.turnstile.specs.declared.views.View.{View}
 use Rattle.turnstile.specs.Private.SeatViews.{times, ticket_count, waits, share, without_one, with_one, with_numbers}
-use Rattle.turnstile.specs.Private.TurnstileRule.{total, Knows, Kept}
+use Rattle.turnstile.specs.Private.TurnstileRule.{total, Knows, IsByRule}
 use Rattle.turnstile.proofs.Totals.{total_set, total_snoc, none_in}
 use Rattle.turnstile.proofs.Numbers.{part_times, part_length, taken_numbers, dropped_numbers}
 use Rattle.turnstile.proofs.EntryLists.{foreign_part}
@@ -18,7 +18,7 @@ module _ {K E B : Type 0} (entries : K → List (ℕ × E)) (base : K → B) whe
   V = View E B
 
   -- a pass gives up its first number
-  pub splits : (id : ℕ) (v : V) → v.ticket ≡ None → v.noted ≡ None → v.old ≡ [] → 1 < length v.sight.numbers → Splits (Kept entries base) id v (without_one v) (with_one v)
+  pub splits : (id : ℕ) (v : V) → v.ticket ≡ None → v.noted ≡ None → v.old ≡ [] → 1 < length v.sight.numbers → Splits (IsByRule entries base) id v (without_one v) (with_one v)
   splits id v free rests calm two s r at =
       let known = r.each_seat id v at in
       let ns : List ℕ = v.sight.numbers in

@@ -7,7 +7,7 @@ use Rattle.atomic_table.specs.Table.{opening}
 use Rattle.turnstile.specs.declared.views.View.{View}
 use Rattle.turnstile.specs.PassEntries.{Below}
 use Rattle.turnstile.specs.Private.SeatViews.{numbers_from, first}
-use Rattle.turnstile.specs.Private.TurnstileRule.{home, Knows, Kept}
+use Rattle.turnstile.specs.Private.TurnstileRule.{home, Knows, IsByRule}
 use Rattle.turnstile.proofs.Numbers.{length_from, once_from}
 use Rattle.turnstile.proofs.EntryLists.{all_seen}
 use Rattle.turnstile.proofs.ViewSteps.{alone}
@@ -17,7 +17,7 @@ module _ {K E B : Type 0} (entries : K → List (ℕ × E)) (base : K → B) whe
   V = View E B
 
   -- the rule at the start
-  pub starts : (x : K) (n : ℕ) → 0 < n → n < 4294967296 → Below n (entries x) → Kept entries base (opening (0 ∷ 0 ∷ []) (Some x ∷ []) (first (entries x) (base x) n))
+  pub starts : (x : K) (n : ℕ) → 0 < n → n < 4294967296 → Below n (entries x) → IsByRule entries base (opening (0 ∷ 0 ∷ []) (Some x ∷ []) (first (entries x) (base x) n))
   starts x n some_pass few low =
       let all : V = first (entries x) (base x) n in
       record {

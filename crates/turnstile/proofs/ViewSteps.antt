@@ -6,7 +6,7 @@ use mathlib.Core.Option.{some, some-injective, some-ne-none}
 use lib.ListN.{get_elem?}
 use Rattle.atomic_table.proofs.Lists.{at_set, at_snoc}
 use Rattle.turnstile.specs.declared.views.View.{View}
-use Rattle.turnstile.specs.Private.TurnstileRule.{Apart}
+use Rattle.turnstile.specs.Private.TurnstileRule.{HaveOwnTickets}
 
 module _ {V : Type 0} where
   -- what each seat knows, after a step of the seat `id`
@@ -19,13 +19,13 @@ module _ {V : Type 0} where
   alone w (suc j) v e = absurd (some-ne-none v (sym e))
 
 module _ {E B : Type 0} where
-  pub apart_set : (vs : List (View E B)) (id : ℕ) (w : View E B) → Apart vs → ((j : ℕ) (v : View E B) (t : ℕ) → j ≢ id → get_elem? vs j ≡ some v → v.ticket ≡ Some t → w.ticket ≡ Some t → ⊥) → Apart (set vs id w)
+  pub apart_set : (vs : List (View E B)) (id : ℕ) (w : View E B) → HaveOwnTickets vs → ((j : ℕ) (v : View E B) (t : ℕ) → j ≢ id → get_elem? vs j ≡ some v → v.ticket ≡ Some t → w.ticket ≡ Some t → ⊥) → HaveOwnTickets (set vs id w)
   apart_set vs id w old fresh i j u v t a b p q =
       ⊎_elim (λ (x : (i ≡ id) × (w ≡ u)). ⊎_elim (λ (y : (j ≡ id) × (w ≡ v)). x.0 ∙ sym y.0) (λ (y : (j ≢ id) × (get_elem? vs j ≡ some v)). absurd (fresh j v t y.0 y.1 q (ap (λ (z : View E B). z.ticket) x.1 ∙ p))) (at_set vs id j w v b))
       (λ (x : (i ≢ id) × (get_elem? vs i ≡ some u)). ⊎_elim (λ (y : (j ≡ id) × (w ≡ v)). absurd (fresh i u t x.0 x.1 p (ap (λ (z : View E B). z.ticket) y.1 ∙ q))) (λ (y : (j ≢ id) × (get_elem? vs j ≡ some v)). old i j u v t x.1 y.1 p q) (at_set vs id j w v b))
       (at_set vs id i w u a)
 
-  pub apart_snoc : (vs : List (View E B)) (w : View E B) → Apart vs → w.ticket ≡ None → Apart (vs ++ w ∷ [])
+  pub apart_snoc : (vs : List (View E B)) (w : View E B) → HaveOwnTickets vs → w.ticket ≡ None → HaveOwnTickets (vs ++ w ∷ [])
   apart_snoc vs w old free i j u v t a b p q =
       ⊎_elim (λ (x : get_elem? vs i ≡ some u). ⊎_elim (λ (y : get_elem? vs j ≡ some v). old i j u v t x y p q) (λ (y : w ≡ v). absurd (none-some t (sym free ∙ (ap (λ (z : View E B). z.ticket) y ∙ q)))) (at_snoc vs w v j b))
       (λ (x : w ≡ u). absurd (none-some t (sym free ∙ (ap (λ (z : View E B). z.ticket) x ∙ p)))) (at_snoc vs w u i a)

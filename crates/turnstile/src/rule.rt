@@ -24,10 +24,10 @@ pub struct About<K> {
 pub struct Rule;
 
 impl<K: Chronicle> TableRule<Option<K>, View<K::Entry, K::Base>, About<K>> for Rule {
-    ghost use Rattle.turnstile.specs.Private.TurnstileRule.{Kept};
+    ghost use Rattle.turnstile.specs.Private.TurnstileRule.{IsByRule};
     ghost use Rattle.turnstile.specs.Private.SeatViews.{first as first_view};
 
-    ghost holds = { λ _. Kept K.entries K.base };
+    ghost holds = { λ _. IsByRule K.entries K.base };
 
     ghost first = { λ key. first_view (K.entries key.value.value) (K.base key.value.value) key.passes };
 }

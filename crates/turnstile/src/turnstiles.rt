@@ -10,7 +10,7 @@ use crate::chronicles::Chronicle;
 use crate::dealing::{deal, vec_of_one};
 use crate::passes::{Pass, Turn};
 use crate::rule::{About, Rule, SERVING, SLOT, TICKETS};
-use crate::steps::{Compare, Draw, Leave, Serve, Unite};
+use crate::steps::{Compare, Leave, Serve, TakeTicket, Unite};
 use crate::views::View;
 use air_base::NoMemory;
 use atomic_table::Table;
@@ -93,7 +93,7 @@ impl<K: Chronicle> Turnstile<K> {
         ensures list { Continues pass.old.numbers pass.old.seen (K.entries result.value) }
     {
         let shared = &self.table.shared;
-        let ticket = shared.fetch_add::<Draw>(&mut pass.seat, TICKETS, 1);
+        let ticket = shared.fetch_add::<TakeTicket>(&mut pass.seat, TICKETS, 1);
         let mut rounds = 0;
         for _ in wait.forever() {
             let served = shared.load::<Serve>(&mut pass.seat, SERVING);

@@ -2,7 +2,6 @@
 //!
 //! `passes` and `mark` are what the turnstile was made with; the calls take them for their contracts alone.
 ghost use Rattle.std.specs.Prelude.{◌≡◌, ℕ, ◌<◌, [], ◌∷◌, length, slice_get, slice_index_or, All, IfOk, None, Some};
-ghost use Rattle.std.specs.Thread.{IsSync};
 ghost use Rattle.turnstile_tests.specs.Workers.{IsReady, InOrder};
 
 use crate::pairs::Pairs;

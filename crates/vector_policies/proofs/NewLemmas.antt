@@ -4,7 +4,7 @@ use Rattle.std.specs.Option.{option_map_or}
 use Rattle.air_history.specs.declared.histories.Event.{Event}
 use Rattle.air_history.specs.Histories.{cycle_at, front, writer}
 use Rattle.air_history.specs.Columns.{Scheme, vector_entry, vector}
-use Rattle.air_history.specs.Clashes.{Heard}
+use Rattle.air_history.specs.Clashes.{HeardRead}
 use Rattle.air_history.specs.ClashLaws.{HasCappedEntries, aired_entry}
 use Rattle.air_history.specs.HeldReads.{HeldReads, IsNew}
 use Rattle.air_history.proofs.HistoryLemmas.{front_cycle, front_cycle_same}
@@ -23,7 +23,7 @@ unfolding vector_entry
 entry_before H c i pos = cycle_before H c i pos (writer (front H c) i) refl
 
 -- Under a scheme that airs the write vector.
-pub vector_is_new : (scheme : Scheme) (held : HeldReads) (H : List Event) (x : Heard) → ((i : ℕ) → aired_entry scheme held.n H x i ≡ get_or (vector held.n (front H x.cycle)) i 0) →
+pub vector_is_new : (scheme : Scheme) (held : HeldReads) (H : List Event) (x : HeardRead) → ((i : ℕ) → aired_entry scheme held.n H x i ≡ get_or (vector held.n (front H x.cycle)) i 0) →
     HasCappedEntries scheme held.n H x → All (λ r. r.item ≢ x.item) held.reads → IsNew held x
 vector_is_new scheme held H x airs heard free = record {
   within = heard.within;

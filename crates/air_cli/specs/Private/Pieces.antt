@@ -1,7 +1,7 @@
 -- For private steps alone. A piece of a tape in its buffer, what a read adds to it, and what was heard of the whole tape.
 use Rattle.std.specs.Prelude.{◌≡◌, ◌≤◌, ◌<◌, ◌-◌, ◌⊎◌, ℕ, IsTrue, List, [], ◌++◌, length, map, take, drop, None, Option}
 use Rattle.std.specs.Io.KnownBytes.{Consumes, IsAtEnd}
-use Rattle.air_devices.specs.Told.{ToldIs}
+use Rattle.air_devices.specs.WhatIsTold.{ToldIs}
 use Rattle.air_devices.specs.Shelves.{ShelfState}
 use Rattle.air_model.specs.Buckets.{bucket_in}
 use Rattle.air_model.specs.Tapes.{IsTape, ends_inside, tape_read}

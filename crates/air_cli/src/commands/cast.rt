@@ -3,7 +3,7 @@
 ghost use Rattle.std.specs.Prelude.{◌≡◌, ◌≤◌, ◌⊎◌, None, Some, IfErr, IfOk};
 ghost use Rattle.air_base.specs.declared.limits.TheConstants.{MOST_TAPE_BYTES};
 ghost use Rattle.air_devices.specs.Masts.{nothing_sent};
-ghost use Rattle.air_devices.specs.Told.{WhereTold};
+ghost use Rattle.air_devices.specs.WhatIsTold.{WhereTold};
 ghost use Rattle.deck_runs.specs.RunTapes.{run_tape_len};
 ghost use Rattle.air_model.specs.Runs.{Run};
 ghost use Rattle.air_cli.specs.Cast.{HasSent, IsCast, cast_meaning};

@@ -11,7 +11,7 @@ ghost use Rattle.std.specs.Option.{is_none, option_map};
 ghost use Rattle.air_devices.specs.Calls.{is_next_listed};
 ghost use Rattle.air_devices.specs.Counts.{HasCauseIn, printing_of, reading_of, writing_of};
 ghost use Rattle.air_devices.specs.Unchanged.{KeepsButLeft, KeepsButOutput, KeepsButPrinted};
-ghost use Rattle.air_devices.specs.Told.{AppendsPart, Becomes};
+ghost use Rattle.air_devices.specs.WhatIsTold.{AppendsPart, Becomes};
 ghost use Rattle.air_devices.specs.Memory.{IsNewShelf, MadeShelfCall, added_bytes, empty_output, faults_of, file_in, given_bytes, given_named, output_in, overflows_output, overflows_print, shelved_of, spells, told_by, unpicked_file};
 
 use crate::memory::calls::Calls;

@@ -5,7 +5,7 @@
 //! datagram, which is sent three times. It waits between datagrams (`paces`), and before the end, so that whoever listens on this
 //! machine can hear them all; no clause speaks of time.
 
-ghost use Rattle.std.specs.Prelude.{◌≡◌, ◌≤◌, ◌<◌, [], None, Some, length, IsErr};
+ghost use Rattle.std.specs.Prelude.{◌≡◌, ◌≤◌, ◌<◌, [], None, Some, IsErr};
 ghost use Rattle.std.specs.Option.{option_map};
 ghost use Rattle.air_devices.specs.Counts.{HasCause, Rose};
 ghost use Rattle.air_devices.specs.NetFailures.{IsLastOf, KeepsLastOf};

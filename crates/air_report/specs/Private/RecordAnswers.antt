@@ -3,19 +3,19 @@ use Rattle.std.specs.Prelude.{◌≡◌, ◌<◌, ◌++◌, ⊤, [], ◌∷◌, 
 use Rattle.air_model.specs.Decks.{Deck}
 use Rattle.air_base.specs.declared.limits.TheConstants.{MOST_UPDATERS}
 use Rattle.item_catalog.specs.RecordKinds.{least_kind, with_spelled}
-use Rattle.item_catalog.specs.Private.ReadAnswers.{Answers}
+use Rattle.item_catalog.specs.ReadAnswers.{Answers}
 use Rattle.item_catalog.specs.declared.records.refusals.Refusal.{Refusal}
 use Rattle.item_catalog.specs.declared.records.refusals.Refusal.TheVariants.{NoMemory}
 use Rattle.air_report.specs.LineFaults.{line_tests}
 use Rattle.air_report.specs.ReportLines.{ReportLines, commits_by}
-use Rattle.air_report.specs.declared.reading.kinds.FaultKind.{FaultKind}
+use Rattle.air_report.specs.declared.reading.kinds.ReportFaultKind.{ReportFaultKind}
 use Rattle.air_report.specs.declared.reading.lines.EventLine.{EventLine}
 use Rattle.air_report.specs.declared.reading.lines.EventLine.TheVariants.{Commit, Start}
-use Rattle.air_report.specs.declared.reading.lines.Line.{Line}
-use Rattle.air_report.specs.declared.reading.lines.Line.TheVariants.{Event, Verdict, Counts, Glance, Look}
+use Rattle.air_report.specs.declared.reading.lines.ReportLine.{ReportLine}
+use Rattle.air_report.specs.declared.reading.lines.ReportLine.TheVariants.{Event, Verdict, Counts, Glance, Look}
 
 -- The lines with one more.
-abbrev pub with_one_line : ReportLines → Line → ReportLines
+abbrev pub with_one_line : ReportLines → ReportLine → ReportLines
 with_one_line r (Event line) = record r { events = r.events ++ line ∷ [] }
 with_one_line r (Verdict line) = record r { verdicts = r.verdicts ++ line ∷ [] }
 with_one_line r (Counts line) = record r { counts = r.counts ++ line ∷ [] }
@@ -23,15 +23,15 @@ with_one_line r (Glance line) = record r { glances = r.glances ++ line ∷ [] }
 with_one_line r (Look line) = record r { looks = r.looks ++ line ∷ [] }
 
 -- The least kind that applies to what a record spells.
-abbrev pub line_record_kind : Deck → ReportLines → Result Line FaultKind → Option FaultKind
+abbrev pub line_record_kind : Deck → ReportLines → Result ReportLine ReportFaultKind → Option ReportFaultKind
 line_record_kind deck before spelled = least_kind (line_tests deck before) spelled
 
 -- A call adds what a record spells, where no kind applies; else it tells the least. What it leaves then is not told.
-abbrev pub AddsLine : {A : Type 0} → Result A (Refusal FaultKind) → Deck → Result Line FaultKind → ReportLines → ReportLines → Type 0
+abbrev pub AddsLine : {A : Type 0} → Result A (Refusal ReportFaultKind) → Deck → Result ReportLine ReportFaultKind → ReportLines → ReportLines → Type 0
 AddsLine result deck spelled old new = Answers result (line_record_kind deck old spelled) (λ _. new ≡ with_spelled with_one_line old spelled)
 
 -- Memory ran out, or this holds.
-abbrev pub Pushed : {A : Type 0} → Result A (Refusal FaultKind) → Type 0 → Type 0
+abbrev pub Pushed : {A : Type 0} → Result A (Refusal ReportFaultKind) → Type 0 → Type 0
 Pushed (Ok _) Holds = Holds
 Pushed (Err refusal) Holds = refusal ≡ NoMemory
 
@@ -41,6 +41,6 @@ CanCommit before (Commit by seq) = (by < MOST_UPDATERS) × (seq ≡ commits_by b
 CanCommit before Start = ⊤
 
 -- A line may be added: a commit is then its updater's next.
-abbrev pub CanPush : ReportLines → Line → Type 0
+abbrev pub CanPush : ReportLines → ReportLine → Type 0
 CanPush before (Event line) = CanCommit before line
 CanPush before line = ⊤

@@ -10,8 +10,8 @@ ghost use Rattle.air_report.specs.LineFaults.{comes_after_later_section, comes_n
 ghost use Rattle.air_report.specs.ReportLines.{sections_of};
 ghost use Rattle.air_report.specs.Private.RecordAnswers.{AddsLine, CanCommit, CanPush, Pushed, line_record_kind, with_one_line};
 
-use crate::reading::kinds::FaultKind;
-use crate::reading::lines::{EventLine, Line};
+use crate::reading::kinds::ReportFaultKind;
+use crate::reading::lines::{EventLine, ReportLine};
 use crate::reading::parsing::read_line;
 use crate::reading::rules::{is_begun, is_known};
 use crate::reading::sections::ReadLines;
@@ -23,15 +23,15 @@ use std::marker::Model;
 
 /// The lines so far, the number of each updater's commits, and that of starts.
 #[derive(Debug, Drop)]
-pub struct Draft {
+pub struct ReportDraft {
     lines: ReadLines,
     made: [u64; MOST_UPDATERS],
     starts: u64,
 }
 
-impl Model for Draft {
+impl Model for ReportDraft {
     ghost use Rattle.air_report.specs.ReportLines.{ReportLines};
-    ghost use Rattle.air_report.specs.Private.ReportView.{DraftCounts};
+    ghost use Rattle.air_report.specs.Private.ReportFields.{DraftCounts};
 
     ghost Value = { ReportLines };
 
@@ -40,12 +40,12 @@ impl Model for Draft {
     ghost invariant = { DraftCounts };
 }
 
-impl Draft {
+impl ReportDraft {
     /// No lines.
-    pub fn new(alloc: Global) -> Draft
+    pub fn new(alloc: Global) -> ReportDraft
         ensures { result ≡ sections_of [] }
     {
-        Draft {
+        ReportDraft {
             lines: ReadLines::new(alloc),
             made: [0; MOST_UPDATERS],
             starts: 0,
@@ -53,7 +53,7 @@ impl Draft {
     }
 
     /// Whether a line of a later section stands among those before.
-    fn comes_after_later_section(&self, line: &Line) -> bool
+    fn comes_after_later_section(&self, line: &ReportLine) -> bool
         ensures { result ≡ comes_after_later_section self.now line.now }
     {
         let lines = &self.lines;
@@ -61,11 +61,11 @@ impl Draft {
         let glances = !lines.glances.is_empty() || looks;
         let counts = !lines.counts.is_empty() || glances;
         match line {
-            Line::Event(_) => !lines.verdicts.is_empty() || counts,
-            Line::Verdict(_) => counts,
-            Line::Counts(_) => glances,
-            Line::Glance(_) => looks,
-            Line::Look(_) => false,
+            ReportLine::Event(_) => !lines.verdicts.is_empty() || counts,
+            ReportLine::Verdict(_) => counts,
+            ReportLine::Counts(_) => glances,
+            ReportLine::Glance(_) => looks,
+            ReportLine::Look(_) => false,
         }
     }
 
@@ -84,38 +84,38 @@ impl Draft {
     }
 
     /// Whether a line is no commit, or the next one of its updater.
-    fn comes_next(&self, deck: &Deck, line: &Line) -> bool
+    fn comes_next(&self, deck: &Deck, line: &ReportLine) -> bool
         ensures { result ≡ comes_next deck.now self.now.events line.now }
     {
         match line {
-            Line::Event(event) => self.is_next(deck, *event),
+            ReportLine::Event(event) => self.is_next(deck, *event),
             _ => true,
         }
     }
 
     /// The least kind that applies to a line.
-    fn kind_of(&self, deck: &Deck, line: &Line) -> Option<FaultKind>
+    fn kind_of(&self, deck: &Deck, line: &ReportLine) -> Option<ReportFaultKind>
         ensures { result ≡ line_record_kind deck.now self.now (Ok line.now) }
     {
         if self.comes_after_later_section(line) {
-            return Some(FaultKind::Order);
+            return Some(ReportFaultKind::Order);
         }
         if !self.comes_next(deck, line) {
-            return Some(FaultKind::Update);
+            return Some(ReportFaultKind::Update);
         }
         if !is_known(deck, line) {
-            return Some(FaultKind::Deck);
+            return Some(ReportFaultKind::Deck);
         }
         if !is_begun(self.starts, line) {
-            return Some(FaultKind::Cycle);
+            return Some(ReportFaultKind::Cycle);
         }
         None
     }
 
     /// Adds a line of the history, which is a start or its updater's next commit.
-    fn push_event(&mut self, event: EventLine) -> Result<(), Refusal<FaultKind>>
+    fn push_event(&mut self, event: EventLine) -> Result<(), Refusal<ReportFaultKind>>
         requires { CanCommit self.old event }
-        ensures { Pushed result (self.new ≡ with_one_line self.old (Line.Event event)) }
+        ensures { Pushed result (self.new ≡ with_one_line self.old (ReportLine.Event event)) }
     {
         self.lines.push_event(event)?;
         let _places = self.lines.history().len();
@@ -127,16 +127,16 @@ impl Draft {
     }
 
     /// Adds a line to which no kind applies.
-    fn push(&mut self, line: Line) -> Result<(), Refusal<FaultKind>>
+    fn push(&mut self, line: ReportLine) -> Result<(), Refusal<ReportFaultKind>>
         requires { CanPush self.old line }
         ensures { Pushed result (self.new ≡ with_one_line self.old line) }
     {
         match line {
-            Line::Event(event) => self.push_event(event)?,
-            Line::Verdict(line) => self.lines.push_verdict(line)?,
-            Line::Counts(line) => self.lines.push_counts(line)?,
-            Line::Glance(line) => self.lines.push_glance(line)?,
-            Line::Look(line) => self.lines.push_look(line)?,
+            ReportLine::Event(event) => self.push_event(event)?,
+            ReportLine::Verdict(line) => self.lines.push_verdict(line)?,
+            ReportLine::Counts(line) => self.lines.push_counts(line)?,
+            ReportLine::Glance(line) => self.lines.push_glance(line)?,
+            ReportLine::Look(line) => self.lines.push_look(line)?,
         }
         Ok(())
     }
@@ -146,12 +146,12 @@ impl Draft {
         &mut self,
         alloc: Global,
         deck: &Deck,
-        row: &ByteRecord,
-    ) -> Result<(), Refusal<FaultKind>>
-        ensures { AddsLine result deck.now (spelled_line deck.now.settings.version (fields_of row.now)) self.old self.new }
+        fields: &ByteRecord,
+    ) -> Result<(), Refusal<ReportFaultKind>>
+        ensures { AddsLine result deck.now (spelled_line deck.now.settings.version (fields_of fields.now)) self.old self.new }
     {
         deck.shows_well_made();
-        let line = read_line(alloc, deck.settings().version, row)?;
+        let line = read_line(alloc, deck.settings().version, fields)?;
         if let Some(kind) = self.kind_of(deck, &line) {
             return Err(Refusal::Kind(kind));
         }

@@ -3,7 +3,7 @@
 ghost use Rattle.std.specs.Prelude.{◌≡◌};
 ghost use Rattle.air_report.specs.Kinds.{report_kind_number};
 
-use crate::reading::kinds::FaultKind;
+use crate::reading::kinds::ReportFaultKind;
 use air_base::NoMemory;
 use std::error::Error;
 use std::fmt;
@@ -19,7 +19,7 @@ pub enum ReportError {
 
 impl ReportError {
     /// The fault of this kind at this record.
-    pub(crate) fn at(row: u32, kind: FaultKind) -> ReportError
+    pub(crate) fn at(row: u32, kind: ReportFaultKind) -> ReportError
         ensures { result ≡ ReportError.Fault row (report_kind_number kind) }
     {
         ReportError::Fault {

@@ -5,7 +5,7 @@ ghost use Rattle.air_report.specs.Kinds.{report_kind_number};
 
 /// A kind of fault. Each has a number: of those that apply to a record, the one of the least number is told.
 #[derive(Clone, Copy, Debug, PartialEq, Eq)]
-pub enum FaultKind {
+pub enum ReportFaultKind {
     /// The tag has another number of fields.
     Fields,
     /// A field, or a part of a list, isn't of its form, or a number is above its type's range.
@@ -22,19 +22,19 @@ pub enum FaultKind {
     Cycle,
 }
 
-impl FaultKind {
+impl ReportFaultKind {
     /// Its number.
     pub fn code(self) -> u8
         ensures { result ≡ report_kind_number self }
     {
         match self {
-            FaultKind::Fields => 1,
-            FaultKind::Form => 2,
-            FaultKind::Tag => 3,
-            FaultKind::Order => 4,
-            FaultKind::Update => 5,
-            FaultKind::Deck => 6,
-            FaultKind::Cycle => 7,
+            ReportFaultKind::Fields => 1,
+            ReportFaultKind::Form => 2,
+            ReportFaultKind::Tag => 3,
+            ReportFaultKind::Order => 4,
+            ReportFaultKind::Update => 5,
+            ReportFaultKind::Deck => 6,
+            ReportFaultKind::Cycle => 7,
         }
     }
 }

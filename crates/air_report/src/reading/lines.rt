@@ -11,7 +11,7 @@ pub enum EventLine {
 
 /// A line of a report.
 #[derive(Debug, Drop)]
-pub enum Line {
+pub enum ReportLine {
     Event(EventLine),
     Verdict(VerdictLine),
     Counts(CountsLine),

@@ -1,10 +1,10 @@
-//! Reads as reports write them, and lists of them, read from the front in one pass.
+//! Reads as reports write them, and lists of them, read from the beginning in one pass.
 
 ghost use Rattle.std.specs.Prelude.{◌≡◌, ◌^◌, IfOk, MatchOption, Some, None, option_map};
-ghost use Rattle.air_base.specs.LeadingParts.{FrontIs, after_digits, digits_of};
+ghost use Rattle.air_base.specs.LeadingParts.{LeadingIs, after_digits, digits_of};
 ghost use Rattle.air_base.specs.NumberLists.{list_of};
 ghost use Rattle.air_report.specs.LineTexts.{below, short_of, spelled_item, spelled_place, spelled_read};
-ghost use Rattle.air_report.specs.Private.ReadFronts.{leading_place, leading_read};
+ghost use Rattle.air_report.specs.Private.LeadingReads.{leading_place, leading_read};
 
 use air_base::{ReadOf, Reads, after_byte, leading_number, read_leading_number, read_u64};
 use std::alloc::{AllocFailed, Global};
@@ -45,7 +45,7 @@ pub fn read_short(text: &[u8]) -> Option<u32>
     to_short(read_u64(text)?)
 }
 
-/// The item at the front, and the text behind its digits.
+/// The leading item, and the text behind its digits.
 #[tactic(auto, unfolding(crate::specs::LineTexts::spelled_item))]
 fn leading_item(text: &[u8]) -> Option<(u16, &[u8])>
     ensures { MatchOption result (spelled_item (digits_of text.now) ≡ None) (λ f. (spelled_item (digits_of text.now) ≡ Some f.0) × (f.1.now ≡ after_digits text.now)) }
@@ -55,7 +55,7 @@ fn leading_item(text: &[u8]) -> Option<(u16, &[u8])>
     Some((item, rest))
 }
 
-/// The number of 32 bits at the front, and the text behind its digits.
+/// The leading number of 32 bits, and the text behind its digits.
 #[tactic(auto, unfolding(crate::specs::LineTexts::short_of))]
 fn leading_short(text: &[u8]) -> Option<(u32, &[u8])>
     ensures { MatchOption result (short_of (digits_of text.now) ≡ None) (λ f. (short_of (digits_of text.now) ≡ Some f.0) × (f.1.now ≡ after_digits text.now)) }
@@ -65,8 +65,8 @@ fn leading_short(text: &[u8]) -> Option<(u32, &[u8])>
     Some((short, rest))
 }
 
-/// The place at the front, and the text behind it.
-#[tactic(auto, unfolding(crate::specs::Private::ReadFronts::leading_place))]
+/// The leading place, and the text behind it.
+#[tactic(auto, unfolding(crate::specs::Private::LeadingReads::leading_place))]
 fn leading_place(text: &[u8]) -> Option<(u16, u32, &[u8])>
     ensures { option_map (λ f. (f.0, f.1, f.2.now)) result ≡ leading_place text.now }
 {
@@ -89,8 +89,8 @@ pub fn read_place(text: &[u8]) -> Option<(u16, u32)>
     Some((item, cycle))
 }
 
-/// The read at the front, and the text behind its part.
-#[tactic(auto, unfolding(crate::specs::Private::ReadFronts::leading_read))]
+/// The leading read, and the text behind its part.
+#[tactic(auto, unfolding(crate::specs::Private::LeadingReads::leading_read))]
 fn leading_read(text: &[u8]) -> Option<(ReadOf, &[u8])>
     ensures { option_map (λ f. (f.0, f.1.now)) result ≡ leading_read text.now }
 {
@@ -101,8 +101,8 @@ fn leading_read(text: &[u8]) -> Option<(ReadOf, &[u8])>
 }
 
 /// The read that the first part spells, and what follows the part.
-fn read_front(text: &[u8]) -> Option<(ReadOf, &[u8])>
-    ensures { FrontIs spelled_read text.now (option_map (λ f. (f.0, f.1.now)) result) }
+fn read_leading(text: &[u8]) -> Option<(ReadOf, &[u8])>
+    ensures { LeadingIs spelled_read text.now (option_map (λ f. (f.0, f.1.now)) result) }
 {
     leading_read(text)
 }
@@ -117,7 +117,7 @@ pub fn read_reads(alloc: Global, text: &[u8]) -> Result<Option<Reads>, AllocFail
     }
     let mut rest = text;
     loop {
-        let Some((read, after)) = read_front(rest) else {
+        let Some((read, after)) = read_leading(rest) else {
             return Ok(None);
         };
         reads.push(read)?;

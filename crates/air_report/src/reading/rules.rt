@@ -4,12 +4,12 @@ ghost use Rattle.std.specs.Prelude.{◌≡◌, ◌==◌, map};
 ghost use Rattle.std.specs.List.{list_all, list_any};
 ghost use Rattle.air_report.specs.LineFaults.{end_begun, follow, has_begun, is_attempt, is_begun, is_known, is_tried, leads, may_end, read_item};
 
-use crate::reading::lines::Line;
+use crate::reading::lines::ReportLine;
 use air_base::{ReadOf, VerdictKind};
 use air_model::reports::VerdictLine;
 use item_catalog::Deck;
 
-/// Whether the items of reads stand in order at the front of a query.
+/// Whether the items of reads are the first of a query, in order.
 fn leads(reads: &[ReadOf], query: &[u16]) -> bool
     ensures { result ≡ leads (map read_item reads.now) query.now }
 {
@@ -92,15 +92,15 @@ fn is_tried(deck: &Deck, line: &VerdictLine) -> bool
 }
 
 /// Whether what a line names, beside updates and cycles, is the deck's.
-pub fn is_known(deck: &Deck, line: &Line) -> bool
+pub fn is_known(deck: &Deck, line: &ReportLine) -> bool
     ensures { result ≡ is_known deck.now line.now }
 {
     match line {
-        Line::Event(_) => true,
-        Line::Verdict(line) => is_tried(deck, line),
-        Line::Counts(line) => line.reader < deck.readers(),
-        Line::Glance(line) => line.monitor < deck.settings().monitors,
-        Line::Look(line) => line.monitor < deck.settings().monitors,
+        ReportLine::Event(_) => true,
+        ReportLine::Verdict(line) => is_tried(deck, line),
+        ReportLine::Counts(line) => line.reader < deck.readers(),
+        ReportLine::Glance(line) => line.monitor < deck.settings().monitors,
+        ReportLine::Look(line) => line.monitor < deck.settings().monitors,
     }
 }
 
@@ -136,16 +136,16 @@ fn end_begun(starts: u64, end: VerdictKind) -> bool
 }
 
 /// Whether each cycle that a line names has begun.
-pub fn is_begun(starts: u64, line: &Line) -> bool
+pub fn is_begun(starts: u64, line: &ReportLine) -> bool
     ensures { result ≡ is_begun starts line.now }
 {
     match line {
-        Line::Event(_) => true,
-        Line::Verdict(line) => {
+        ReportLine::Event(_) => true,
+        ReportLine::Verdict(line) => {
             reads_begun(starts, line.reads.as_slice()) && end_begun(starts, line.verdict.kind)
         }
-        Line::Counts(_) => true,
-        Line::Glance(line) => u64::from(line.cycle) <= starts,
-        Line::Look(line) => u64::from(line.cycle) <= starts,
+        ReportLine::Counts(_) => true,
+        ReportLine::Glance(line) => u64::from(line.cycle) <= starts,
+        ReportLine::Look(line) => u64::from(line.cycle) <= starts,
     }
 }

@@ -8,7 +8,7 @@ use csv::ByteRecord;
 
 /// The tags of records.
 #[derive(Clone, Copy, Debug, PartialEq, Eq)]
-pub enum Tag {
+pub enum LineTag {
     Commit,
     Start,
     Accept,
@@ -21,32 +21,36 @@ pub enum Tag {
 }
 
 /// The tag `aged`, where the version has it.
-fn aged_tag(version: u8) -> Option<Tag>
+fn aged_tag(version: u8) -> Option<LineTag>
     ensures { result ≡ aged_tag version }
 {
-    if version >= 2 { Some(Tag::Aged) } else { None }
+    if version >= 2 {
+        Some(LineTag::Aged)
+    } else {
+        None
+    }
 }
 
 /// The tag of this name, if the version has one.
-fn tag_of(version: u8, text: &[u8]) -> Option<Tag>
+fn tag_of(version: u8, text: &[u8]) -> Option<LineTag>
     ensures { result ≡ line_tag version text.now }
 {
     if text == b"commit".as_slice() {
-        Some(Tag::Commit)
+        Some(LineTag::Commit)
     } else if text == b"start".as_slice() {
-        Some(Tag::Start)
+        Some(LineTag::Start)
     } else if text == b"accept".as_slice() {
-        Some(Tag::Accept)
+        Some(LineTag::Accept)
     } else if text == b"abort".as_slice() {
-        Some(Tag::Abort)
+        Some(LineTag::Abort)
     } else if text == b"unfinished".as_slice() {
-        Some(Tag::Unfinished)
+        Some(LineTag::Unfinished)
     } else if text == b"counts".as_slice() {
-        Some(Tag::Counts)
+        Some(LineTag::Counts)
     } else if text == b"glance".as_slice() {
-        Some(Tag::Glance)
+        Some(LineTag::Glance)
     } else if text == b"look".as_slice() {
-        Some(Tag::Look)
+        Some(LineTag::Look)
     } else if text == b"aged".as_slice() {
         aged_tag(version)
     } else {
@@ -55,10 +59,10 @@ fn tag_of(version: u8, text: &[u8]) -> Option<Tag>
 }
 
 /// The tag of a record, if the version has it.
-pub fn read_tag(version: u8, row: &ByteRecord) -> Option<Tag>
-    ensures { spelled_line version (fields_of row.now) ≡ spelled_line_by result (drop 1 (fields_of row.now)) }
+pub fn read_tag(version: u8, fields: &ByteRecord) -> Option<LineTag>
+    ensures { spelled_line version (fields_of fields.now) ≡ spelled_line_by result (drop 1 (fields_of fields.now)) }
 {
-    match row.get(0) {
+    match fields.get(0) {
         Some(text) => tag_of(version, text),
         None => None,
     }

@@ -5,7 +5,7 @@ ghost use Rattle.air_report.specs.declared.reading.limits.TheConstants.{MOST_REP
 ghost use Rattle.air_report.specs.LineGrammar.{SpellsLines};
 ghost use Rattle.air_report.specs.ReportGrammar.{IsReportAnswer};
 
-use crate::reading::draft::Draft;
+use crate::reading::draft::ReportDraft;
 use crate::reading::faults::ReportError;
 use crate::reading::sections::ReadLines;
 use csv::ByteRecord;
@@ -18,7 +18,7 @@ pub fn read_lines(alloc: Global, deck: &Deck, bytes: &[u8]) -> Result<ReadLines,
     ensures lines { IfOk result (SpellsLines deck.now bytes.now) }
     ensures fault { IfErr result (IsReportAnswer deck.now bytes.now) }
 {
-    let mut draft = Draft::new(alloc);
+    let mut draft = ReportDraft::new(alloc);
     let mut records = Records::new(alloc, bytes);
     let mut record = ByteRecord::new(alloc);
     for row in 1..u32::MAX {

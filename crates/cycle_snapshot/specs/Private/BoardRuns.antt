@@ -1,14 +1,10 @@
 -- For private steps alone. How a batch changes a board, and a copy.
-use Rattle.std.specs.Prelude.{ℕ, Bool, ◌-◌, ◌^◌, cond, nat_lt, ◌==◌, ◌&&◌, List, length, fold}
+use Rattle.std.specs.Prelude.{ℕ, Bool, ◌-◌, ◌^◌, cond, nat_lt, ◌==◌, ◌&&◌, List, length}
 use Rattle.air_history.specs.declared.histories.Event.{Event}
 use Rattle.air_history.specs.Boards.{Board}
-use Rattle.control_matrix.specs.BoardSteps.{step_board}
+use Rattle.control_matrix.specs.BoardSteps.{step_all}
 use Rattle.cycle_snapshot.specs.declared.board_sides.BoardSide.{BoardSide}
 use Rattle.cycle_snapshot.specs.declared.board_sides.News.{News}
-
--- The board after the events, in order.
-abbrev pub step_all : Board → List Event → Board
-step_all b events = fold step_board b events
 
 -- Whether the board can take a batch of events with one start for so many items: it has as many, and there is a number for one more cycle.
 abbrev pub takes : Board → ℕ → Bool

@@ -37,7 +37,7 @@ pub record HaveEnded (station : TurnstileId) (deck : Deck) (updaters : List Upda
   pub each : (by : ℕ) (run : UpdaterRun) → slice_get updaters by ≡ Some run → HasEndedUpdates station deck by run
 
 -- A stage before the jobs: its conductor and its updaters have new passes, and there is room for the updaters' passes to come back.
-pub record IsOpen (s : Stage) : Type 0 where
+pub record IsUnplayed (s : Stage) : Type 0 where
   pub conductor : CanConduct s.station s.planned.now s.conductor
   pub updaters : AreNewUpdaters s.station s.planned.now s.updaters.items
   pub ready : All (HasNewPass s.station s.planned.now) s.updaters.items

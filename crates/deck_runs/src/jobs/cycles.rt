@@ -8,7 +8,7 @@ ghost use Rattle.air_model.specs.Aired.{Air};
 ghost use Rattle.air_sender.specs.BoardBuckets.{EntriesBelow};
 ghost use Rattle.air_sender.specs.AirFaults.{failed_slot};
 ghost use Rattle.cycle_snapshot.specs.Batches.{IsBatch, batch_events};
-ghost use Rattle.cycle_snapshot.specs.Private.BoardRuns.{step_all};
+ghost use Rattle.control_matrix.specs.BoardSteps.{step_all};
 ghost use Rattle.deck_runs.specs.PublishedBatches.{AreInStep, GoesOn, IsBoardOf, IsPublishedUpTo, IsUpTo, PublishesOn};
 ghost use Rattle.deck_runs.specs.declared.jobs.conductors.ConductFault.TheVariants as fault;
 ghost use Rattle.deck_runs.specs.Sendings.{CanAirIn, IsAirOf, IsCause, SendsCycles};

@@ -1,22 +1,17 @@
 //! What the jobs of a run work on: how it is made, how they run on it, and how it ends.
 
-ghost use Rattle.std.specs.Prelude.{◌≡◌, ◌↔◌, ◌<◌, ◌≤◌, ◌+◌, ◌*◌, ◌^◌, [], length, All, IfOk, IsTrue, MatchResult, OnOk, vec_capacity};
+ghost use Rattle.std.specs.Prelude.{◌≡◌, ◌↔◌, ◌<◌, ◌≤◌, ◌+◌, ◌*◌, ◌^◌, [], length, All, IfOk, IsTrue, vec_capacity};
 ghost use Rattle.air_history.specs.Boards.{board_of};
-ghost use Rattle.air_history.specs.Histories.{starts};
 ghost use Rattle.air_model.specs.Decks.{values_in};
-ghost use Rattle.air_devices.specs.Masts.{Changes, with_buckets};
-ghost use Rattle.air_model.specs.Batches.{AirsByBatches};
 ghost use Rattle.air_model.specs.Buckets.{entry_len};
 ghost use Rattle.bucket_codec.specs.declared.offsets.TheConstants.{HEAD_BYTES};
 ghost use Rattle.cycle_snapshot.specs.SnapshotStates.{MonitorState, new_monitor, new_publisher};
 ghost use Rattle.std.specs.Thread.{IsSync};
-ghost use Rattle.deck_runs.specs.Crews.{CanConduct, EachDone, EachWatched, HasNewPass, passes_of};
-ghost use Rattle.deck_runs.specs.PublishedBatches.{IsUpTo, PublishesOn};
+ghost use Rattle.deck_runs.specs.Crews.{EachDone, EachWatched, HasNewPass, passes_of};
 ghost use Rattle.deck_runs.specs.declared.jobs.crews.MonitorRun.{MonitorRun as Watcher};
 ghost use Rattle.deck_runs.specs.declared.jobs.crews.UpdaterRun.{UpdaterRun as Updater};
 ghost use Rattle.deck_runs.specs.declared.jobs.TheConstants.{LOOKS};
-ghost use Rattle.deck_runs.specs.DeckBytes.{deck_bytes};
-ghost use Rattle.deck_runs.specs.Private.StageSteps.{HasAired, BeginsWhole, IsEnd, IsOpen, IsPlayed};
+ghost use Rattle.deck_runs.specs.Private.StageSteps.{HasAired, BeginsWhole, IsEnd, IsUnplayed, IsPlayed};
 
 use crate::jobs::conductors::ConductFault;
 use crate::jobs::crews::{ConductorRun, MonitorRun, UpdaterRun, update_and_watch};
@@ -65,7 +60,7 @@ fn conductor_of(
 /// A stage of the deck, before all events.
 pub(crate) fn open_stage<'a>(alloc: Global, planned: &'a Planned) -> Result<Stage<'a>, NoMemory>
     ensures planned { IfOk result (λ s. s.planned.now ≡ planned.now) }
-    ensures opened { IfOk result IsOpen }
+    ensures unplayed { IfOk result IsUnplayed }
 {
     let deck = planned.deck();
     let (station, passes, pass) = Station::new(alloc, deck)?;
@@ -132,7 +127,7 @@ impl Stage<'_> {
         mast: &mut M,
         gate: &G,
     ) -> Result<(), ConductFault>
-        requires opened { IsOpen self.old }
+        requires unplayed { IsUnplayed self.old }
         requires publisher { source.old ≡ new_publisher source.old.id (values_in self.old.planned.now) self.old.planned.now.settings.cycles }
         ensures conducted { HasAired M.state self.old.planned.now self.old.conductor.pass self.new.conductor.pass source.old source.new mast.old mast.new result }
         ensures updaters { EachDone self.old.planned.now self.old.updaters.items self.new.updaters.items }

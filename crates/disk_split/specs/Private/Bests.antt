@@ -2,7 +2,7 @@
 use Rattle.std.specs.Prelude.{◌≡◌, ◌≤◌, ◌<◌, ◌==◌, ◌&&◌, ◌||◌, ℕ, ◌*◌, Bool, false, Option, Some, None, List, nat_lt, if◌then◌else◌}
 use Rattle.disk_split.specs.declared.search.BestSizes.{BestSizes}
 use Rattle.disk_split.specs.Splits.{is_before}
-use Rattle.disk_split.specs.Private.Rests.{IsSplitRest, minor_from, weight_from}
+use Rattle.disk_split.specs.Rests.{IsSplitRest, minor_from, weight_from}
 
 -- What sizes for all disks cost.
 abbrev pub cost_from : List ℕ → List ℕ → List ℕ → ℕ

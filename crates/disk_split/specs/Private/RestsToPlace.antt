@@ -1,7 +1,7 @@
 -- For private steps alone. What is left to place, disk by disk.
 use Rattle.std.specs.Prelude.{◌≡◌, ◌≤◌, ◌<◌, ℕ, ◌+◌, ◌-◌, ◌*◌, Option, Some, None, List, [], length, slice_index_or}
 use Rattle.disk_split.specs.declared.sizes.RestToPlace.{RestToPlace}
-use Rattle.disk_split.specs.Private.Rests.{chunk_slots, rates_from}
+use Rattle.disk_split.specs.Rests.{chunk_slots, rates_from}
 use Rattle.disk_split.specs.Private.Tables.{IsCell}
 
 -- A disk with this number of chunks takes `size` of the items, and what the disks after it weigh at least in the slots that are left makes

@@ -1,7 +1,7 @@
 -- For private steps alone. The table of least weights: for the disks from one on, a row for each place from which they take the items,
 -- and in it a cell for each number of slots of a minor cycle.
 use Rattle.std.specs.Prelude.{◌≡◌, ◌≤◌, ◌<◌, ℕ, ◌+◌, ◌-◌, ◌^◌, Option, Some, None, List, [], drop, length, min, nat_lt, slice_index, slice_index_or, if◌then◌else◌}
-use Rattle.disk_split.specs.Private.Rests.{IsSplitRest, IsRestOf, minor_from, weight_from}
+use Rattle.disk_split.specs.Rests.{IsSplitRest, IsRestOf, minor_from, weight_from}
 
 -- The cell is the least weight of all sizes with this number of slots, or none where no sizes have it.
 pub record IsCell (sums chunks : List ℕ) (from len : ℕ) (cell : Option ℕ) : Type 0 where

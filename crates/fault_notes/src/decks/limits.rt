@@ -3,7 +3,7 @@
 use crate::records::Record;
 use crate::records::before::RecordsBefore;
 use crate::records::lists::{Test, first_failing};
-use crate::records::tags::Tag;
+use crate::records::tags::RecordTag;
 use crate::words::sentences::Sentence;
 use air_base::limits::{
     MOST_DISKS, MOST_EVENTS, MOST_ITEMS, MOST_QUERIES, MOST_READERS, MOST_STARTS, MOST_UPDATERS,
@@ -36,13 +36,17 @@ fn script_note(before: &RecordsBefore, record: &Record) -> Option<Sentence<'stat
 }
 
 /// With a record a total passes a limit, or a script's updater does; none where none does.
-pub fn total_note(before: &RecordsBefore, record: &Record, tag: Tag) -> Option<Sentence<'static>> {
+pub fn total_note(
+    before: &RecordsBefore,
+    record: &Record,
+    tag: RecordTag,
+) -> Option<Sentence<'static>> {
     let (before, name, most) = match tag {
-        Tag::Item => (before.items, "items", MOST_ITEMS as u64),
-        Tag::Disk => (before.disks, "disks", MOST_DISKS as u64),
-        Tag::Update => (before.updates, "updates", MOST_UPDATES as u64),
-        Tag::Reader => (before.readers, "readers", MOST_READERS as u64),
-        Tag::Query => (before.queries, "queries", MOST_QUERIES as u64),
+        RecordTag::Item => (before.items, "items", MOST_ITEMS as u64),
+        RecordTag::Disk => (before.disks, "disks", MOST_DISKS as u64),
+        RecordTag::Update => (before.updates, "updates", MOST_UPDATES as u64),
+        RecordTag::Reader => (before.readers, "readers", MOST_READERS as u64),
+        RecordTag::Query => (before.queries, "queries", MOST_QUERIES as u64),
         _ => return script_note(before, record),
     };
     total(before.saturating_add(1), name, most)

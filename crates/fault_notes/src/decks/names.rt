@@ -3,7 +3,7 @@
 use crate::records::Record;
 use crate::records::before::RecordsBefore;
 use crate::records::lists::{Test, first_failing};
-use crate::records::tags::Tag;
+use crate::records::tags::RecordTag;
 use crate::words::sentences::Sentence;
 
 /// An item's id isn't the number of items before it.
@@ -30,11 +30,11 @@ fn first_undeclared<'a>(
 pub fn undeclared_note(
     before: &RecordsBefore,
     record: &Record,
-    tag: Tag,
+    tag: RecordTag,
 ) -> Option<Sentence<'static>> {
     let items = before.items;
     let writes = record.field(3);
-    if tag == Tag::Update {
+    if tag == RecordTag::Update {
         return first_undeclared(record.field(2), Test::Item(items), "reads", items)
             .or(first_undeclared(writes, Test::Item(items), "writes", items))
             .or(first_undeclared(writes, Test::Base(items), "bases", items));
@@ -48,11 +48,14 @@ pub fn undeclared_note(
 }
 
 /// An item stands twice in a list.
-pub fn twice_note(record: &Record, tag: Tag) -> Option<Sentence<'static>> {
+pub fn twice_note(record: &Record, tag: RecordTag) -> Option<Sentence<'static>> {
     let reads = record.field(2);
     let writes = record.field(3);
     let (wording, item) = match first_failing(reads, Test::Once(reads)) {
-        Some((_, item)) if tag == Tag::Query => ("has item #first# twice: each stands once", item),
+        Some((_, item)) if tag == RecordTag::Query => (
+            "has item #first# twice: each stands once",
+            item,
+        ),
         Some((_, item)) => (
             "has item #first# twice among its reads: each stands once",
             item,

@@ -6,9 +6,10 @@ use crate::records::Record;
 use crate::records::before::RecordsBefore;
 use crate::words::sentences::{Sentence, range};
 use crate::words::texts::{space_of, why_no_number};
-use air_base::limits::{MOST_CYCLES, MOST_DELTA, MOST_HEARS, MOST_MONITORS, MOST_SHARE};
+use air_base::limits::{
+    MOST_CYCLES, MOST_DELTA, MOST_HEARS, MOST_MONITORS, MOST_SHARE, NEWEST_VERSION,
+};
 use air_base::read_u64;
-use item_catalog::NEWEST_VERSION;
 
 /// The settings, each with its least and its greatest value; the first has letters for values.
 const SETTINGS: [(&str, u64, u64); 10] = [

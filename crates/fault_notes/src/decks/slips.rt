@@ -10,8 +10,8 @@ const COMMENTS: [&str; 5] = ["#", "//", "--", ";", "%"];
 
 /// Whether a tag begins a comment.
 fn begins_comment(tag: &str) -> bool {
-    for front in COMMENTS {
-        if tag.trim_start().starts_with(front) {
+    for mark in COMMENTS {
+        if tag.trim_start().starts_with(mark) {
             return true;
         }
     }

@@ -1,7 +1,7 @@
 //! What the records before a faulty one say, of a deck or of a report. They have no fault, so each is taken as its tag says.
 
 use crate::decks::settings::setting_place;
-use crate::records::tags::{Line, Tag, deck_line, report_line, section};
+use crate::records::tags::{RecordTag, TaggedForm, deck_form, report_form, section};
 use air_base::limits::MOST_UPDATERS;
 use air_base::read_u64;
 use csv::ByteRecord;
@@ -92,20 +92,20 @@ impl RecordsBefore {
     }
 
     /// Takes one more record of a deck.
-    fn add_to_deck(&mut self, record: &ByteRecord, tag: Tag) {
+    fn add_to_deck(&mut self, record: &ByteRecord, tag: RecordTag) {
         match tag {
-            Tag::Item => raise(&mut self.items),
-            Tag::Disk => {
+            RecordTag::Item => raise(&mut self.items),
+            RecordTag::Disk => {
                 raise(&mut self.disks);
                 self.sizes = self.sizes.saturating_add(number_in(record, 1));
             }
-            Tag::Update => {
+            RecordTag::Update => {
                 raise(&mut self.updates);
                 raise_of(&mut self.updates_by, number_in(record, 1));
             }
-            Tag::Reader => raise(&mut self.readers),
-            Tag::Query => raise(&mut self.queries),
-            Tag::Script => self.add_events(text_in(record, 1)),
+            RecordTag::Reader => raise(&mut self.readers),
+            RecordTag::Query => raise(&mut self.queries),
+            RecordTag::Script => self.add_events(text_in(record, 1)),
             _ => {
                 if let Some(place) = setting_place(text_in(record, 1)) {
                     self.set[place] = true;
@@ -115,25 +115,25 @@ impl RecordsBefore {
     }
 
     /// Takes one more record of a report.
-    fn add_to_report(&mut self, record: &ByteRecord, row: u32, line: Line) {
-        if line.tag == Tag::Start {
+    fn add_to_report(&mut self, record: &ByteRecord, row: u32, known: TaggedForm) {
+        if known.tag == RecordTag::Start {
             raise(&mut self.starts);
-        } else if line.tag == Tag::Commit {
+        } else if known.tag == RecordTag::Commit {
             raise_of(&mut self.commits_by, number_in(record, 1));
         }
-        let place = section(line.tag);
+        let place = section(known.tag);
         if self.begun[place].is_none() {
-            self.begun[place] = Some((row, line.name));
+            self.begun[place] = Some((row, known.name));
         }
     }
 
     /// Takes the record of a row.
     pub fn add(&mut self, record: &ByteRecord, row: u32) {
         let tag = text_in(record, 0);
-        if let Some(line) = deck_line(tag) {
-            self.add_to_deck(record, line.tag);
-        } else if let Some(line) = report_line(tag) {
-            self.add_to_report(record, row, line);
+        if let Some(known) = deck_form(tag) {
+            self.add_to_deck(record, known.tag);
+        } else if let Some(known) = report_form(tag) {
+            self.add_to_report(record, row, known);
         }
     }
 }

@@ -3,7 +3,7 @@
 use crate::records::Record;
 use crate::records::lists::parts_in;
 use crate::words::sentences::{Sentence, range};
-use crate::words::texts::{cut_at, cut_at_sign, why_no_number};
+use crate::words::texts::{parted_at, parted_at_sign, why_no_number};
 use air_base::limits::{
     MOST_AGE, MOST_ASKED, MOST_FREQ, MOST_RATE, MOST_READS, MOST_ROOM, MOST_SIZE, MOST_TRIES,
     MOST_UPDATERS, MOST_WRITES,
@@ -12,7 +12,7 @@ use air_base::read_u64;
 
 /// What a field is, or each part of its list.
 #[derive(Clone, Copy)]
-enum Form {
+enum Sort {
     Number,
     Frequency,
     Place,
@@ -23,7 +23,7 @@ enum Form {
 }
 
 /// A field as forms write it, its name, and its limits: of the number, or of the length of the list.
-type Field = (&'static str, &'static str, Form, u64, u64);
+type Field = (&'static str, &'static str, Sort, u64, u64);
 
 /// The greatest number of 32 bits.
 const SHORT: u64 = u32::MAX as u64;
@@ -33,41 +33,41 @@ const LAST_UPDATER: u64 = MOST_UPDATERS as u64 - 1;
 
 /// The fields of a deck's records.
 const DECK: [Field; 14] = [
-    ("<id>", "id", Form::Number, 0, u64::MAX),
-    ("<value>", "value", Form::Number, 0, u64::MAX),
-    ("<rate>", "rate", Form::Number, 0, MOST_RATE),
-    ("<size>", "size", Form::Number, 1, MOST_SIZE),
-    ("<freq>", "frequency", Form::Frequency, 1, MOST_FREQ),
-    ("<by>", "updater", Form::Number, 0, LAST_UPDATER),
-    ("<reads>", "reads", Form::Items, 0, MOST_READS as u64),
-    ("<writes>", "writes", Form::Writes, 1, MOST_WRITES as u64),
-    ("<room>", "room", Form::Number, 0, MOST_ROOM),
-    ("<age>", "age", Form::Number, 0, MOST_AGE),
-    ("<tries>", "number of tries", Form::Number, 1, MOST_TRIES),
-    ("<reader>", "reader", Form::Number, 0, u64::MAX),
-    ("<items>", "items", Form::Items, 1, MOST_ASKED as u64),
-    ("<events>", "events", Form::Events, 0, u64::MAX),
+    ("<id>", "id", Sort::Number, 0, u64::MAX),
+    ("<value>", "value", Sort::Number, 0, u64::MAX),
+    ("<rate>", "rate", Sort::Number, 0, MOST_RATE),
+    ("<size>", "size", Sort::Number, 1, MOST_SIZE),
+    ("<freq>", "frequency", Sort::Frequency, 1, MOST_FREQ),
+    ("<by>", "updater", Sort::Number, 0, LAST_UPDATER),
+    ("<reads>", "reads", Sort::Items, 0, MOST_READS as u64),
+    ("<writes>", "writes", Sort::Writes, 1, MOST_WRITES as u64),
+    ("<room>", "room", Sort::Number, 0, MOST_ROOM),
+    ("<age>", "age", Sort::Number, 0, MOST_AGE),
+    ("<tries>", "number of tries", Sort::Number, 1, MOST_TRIES),
+    ("<reader>", "reader", Sort::Number, 0, u64::MAX),
+    ("<items>", "items", Sort::Items, 1, MOST_ASKED as u64),
+    ("<events>", "events", Sort::Events, 0, u64::MAX),
 ];
 
 /// The fields of a report's records.
 const REPORT: [Field; 17] = [
-    ("<by>", "updater", Form::Number, 0, SHORT),
-    ("<seq>", "seq", Form::Number, 0, SHORT),
-    ("<reader>", "reader", Form::Number, 0, SHORT),
-    ("<query>", "query", Form::Number, 0, SHORT),
-    ("<attempt>", "attempt", Form::Number, 0, SHORT),
-    ("<reads>", "reads", Form::Reads, 0, u64::MAX),
-    ("<item>@<cycle>", "refused read", Form::Place, 0, u64::MAX),
-    ("<clash>", "clash", Form::Number, 0, u16::MAX as u64),
-    ("<opened>", "count of opened", Form::Number, 0, u64::MAX),
-    ("<dozed>", "count of dozed", Form::Number, 0, u64::MAX),
-    ("<late>", "count of late", Form::Number, 0, u64::MAX),
-    ("<refused>", "count of refused", Form::Number, 0, u64::MAX),
-    ("<foreign>", "count of foreign", Form::Number, 0, u64::MAX),
-    ("<copied>", "count of copied", Form::Number, 0, u64::MAX),
-    ("<monitor>", "monitor", Form::Number, 0, SHORT),
-    ("<cycle>", "cycle", Form::Number, 0, SHORT),
-    ("<total>", "total", Form::Number, 0, u64::MAX),
+    ("<by>", "updater", Sort::Number, 0, SHORT),
+    ("<seq>", "seq", Sort::Number, 0, SHORT),
+    ("<reader>", "reader", Sort::Number, 0, SHORT),
+    ("<query>", "query", Sort::Number, 0, SHORT),
+    ("<attempt>", "attempt", Sort::Number, 0, SHORT),
+    ("<reads>", "reads", Sort::Reads, 0, u64::MAX),
+    ("<item>@<cycle>", "refused read", Sort::Place, 0, u64::MAX),
+    ("<clash>", "clash", Sort::Number, 0, u16::MAX as u64),
+    ("<opened>", "count of opened", Sort::Number, 0, u64::MAX),
+    ("<dozed>", "count of dozed", Sort::Number, 0, u64::MAX),
+    ("<late>", "count of late", Sort::Number, 0, u64::MAX),
+    ("<refused>", "count of refused", Sort::Number, 0, u64::MAX),
+    ("<foreign>", "count of foreign", Sort::Number, 0, u64::MAX),
+    ("<copied>", "count of copied", Sort::Number, 0, u64::MAX),
+    ("<monitor>", "monitor", Sort::Number, 0, SHORT),
+    ("<cycle>", "cycle", Sort::Number, 0, SHORT),
+    ("<total>", "total", Sort::Number, 0, u64::MAX),
 ];
 
 /// The field that a form writes so.
@@ -90,7 +90,7 @@ fn is_number(text: &[u8], most: u64) -> bool {
 
 /// Why a text is no item at a cycle, where that is told of one without `@`; none where it is one.
 fn why_no_place(text: &[u8], told: &'static str) -> Option<&'static str> {
-    let Some((item, cycle)) = cut_at(text, b'@') else {
+    let Some((item, cycle)) = parted_at(text, b'@') else {
         return Some(told);
     };
     if !is_number(item, u16::MAX as u64) {
@@ -105,7 +105,7 @@ fn why_no_place(text: &[u8], told: &'static str) -> Option<&'static str> {
 /// Why a text is no read; none where it is one.
 fn why_no_read(text: &[u8]) -> Option<&'static str> {
     let told = "it isn't item@cycle=value";
-    let Some((place, value)) = cut_at(text, b'=') else {
+    let Some((place, value)) = parted_at(text, b'=') else {
         return Some(told);
     };
     let why = why_no_place(place, told);
@@ -117,24 +117,24 @@ fn why_no_read(text: &[u8]) -> Option<&'static str> {
 
 /// Whether a text spells a write.
 fn is_write(text: &[u8]) -> bool {
-    let Some((item, value)) = cut_at(text, b'=') else {
+    let Some((item, value)) = parted_at(text, b'=') else {
         return false;
     };
     if !is_number(item, u64::MAX) {
         return false;
     }
-    match cut_at_sign(value) {
+    match parted_at_sign(value) {
         Some((base, amount)) => is_number(base, u64::MAX) && is_number(amount, u64::MAX),
         None => is_number(value, u64::MAX),
     }
 }
 
-impl Form {
+impl Sort {
     /// Whether the field is a list.
     fn is_list(self) -> bool {
         matches!(
             self,
-            Form::Items | Form::Writes | Form::Events | Form::Reads
+            Sort::Items | Sort::Writes | Sort::Events | Sort::Reads
         )
     }
 
@@ -142,14 +142,14 @@ impl Form {
     fn why_not(self, text: &str) -> Option<&'static str> {
         let bytes = text.as_bytes();
         match self {
-            Form::Place => why_no_place(bytes, "it isn't item@cycle"),
-            Form::Reads => why_no_read(bytes),
-            Form::Writes if is_write(bytes) => None,
-            Form::Writes => { Some("none of item=amount, item=base+amount and item=base-amount") }
+            Sort::Place => why_no_place(bytes, "it isn't item@cycle"),
+            Sort::Reads => why_no_read(bytes),
+            Sort::Writes if is_write(bytes) => None,
+            Sort::Writes => { Some("none of item=amount, item=base+amount and item=base-amount") }
             _ if is_number(bytes, u64::MAX) => None,
-            Form::Frequency if text == "-" => None,
-            Form::Events if text == "s" => None,
-            Form::Events => Some("neither s nor the number of an updater"),
+            Sort::Frequency if text == "-" => None,
+            Sort::Events if text == "s" => None,
+            Sort::Events => Some("neither s nor the number of an updater"),
             _ => Some(why_no_number(text)),
         }
     }
@@ -169,11 +169,11 @@ fn has_inner_space(list: &str) -> bool {
 }
 
 /// The first part of a list that isn't of its form; none where each is.
-fn list_note<'a>(name: &'static str, form: Form, list: &'a str) -> Option<Sentence<'a>> {
+fn list_note<'a>(name: &'static str, form: Sort, list: &'a str) -> Option<Sentence<'a>> {
     if list.is_empty() {
         return None;
     }
-    if matches!(form, Form::Writes) && has_inner_space(list) {
+    if matches!(form, Sort::Writes) && has_inner_space(list) {
         let wording = "has #text# among its #name#: no space stands within a write";
         return Some(Sentence::words(wording, list, name, ""));
     }
@@ -197,7 +197,7 @@ fn field_note<'a>(field: Field, text: &'a str) -> Option<Sentence<'a>> {
         return list_note(name, form, text);
     }
     let why = form.why_not(text)?;
-    let wording = if matches!(form, Form::Frequency) {
+    let wording = if matches!(form, Sort::Frequency) {
         "has the #name# #text#: no single -, and #why#"
     } else {
         "has the #name# #text#: #why#"

@@ -1,27 +1,27 @@
 //! Lists of items, of writes and of reads.
 
-use crate::words::texts::{cut_at, cut_at_sign, text_before};
+use crate::words::texts::{parted_at, parted_at_sign, text_before};
 use air_base::read_u64;
 
 /// The item that a part of a list names: all of it, or what stands before `@` or, where there is none, before `=`.
 pub fn item_of(part: &str) -> Option<u64> {
     let bytes = part.as_bytes();
-    match cut_at(bytes, b'@') {
-        Some((front, _)) => read_u64(front),
+    match parted_at(bytes, b'@') {
+        Some((leading, _)) => read_u64(leading),
         None => read_u64(text_before(bytes, b'=')),
     }
 }
 
 /// The cycle of a part `<item>@<cycle>`, whatever stands behind a `=`.
 fn cycle_of(part: &str) -> Option<u64> {
-    let (_, cycle) = cut_at(text_before(part.as_bytes(), b'='), b'@')?;
+    let (_, cycle) = parted_at(text_before(part.as_bytes(), b'='), b'@')?;
     read_u64(cycle)
 }
 
 /// The base of a write that has one, whatever stands in the other places.
 fn base_of(part: &str) -> Option<u64> {
-    let (_, value) = cut_at(part.as_bytes(), b'=')?;
-    let (base, _) = cut_at_sign(value)?;
+    let (_, value) = parted_at(part.as_bytes(), b'=')?;
+    let (base, _) = parted_at_sign(value)?;
     read_u64(base)
 }
 

@@ -1,7 +1,7 @@
 //! Notes on the number of a record's fields, and on an unknown tag.
 
 use crate::records::Record;
-use crate::records::tags::{Line, has_list};
+use crate::records::tags::{TaggedForm, has_list};
 use crate::words::sentences::Sentence;
 use crate::words::texts::{has_outer_space, is_digits};
 
@@ -22,8 +22,8 @@ fn has_groups(record: &Record) -> bool {
 }
 
 /// Why a record may have more fields than its form; empty if no reason is found.
-fn why_more(record: &Record, line: Line) -> &'static str {
-    if has_list(line.tag) {
+fn why_more(record: &Record, known: TaggedForm) -> &'static str {
+    if has_list(known.tag) {
         ": the parts of a list are separated by spaces"
     } else if has_groups(record) {
         ": no comma stands within a number"
@@ -33,11 +33,11 @@ fn why_more(record: &Record, line: Line) -> &'static str {
 }
 
 /// The record has another number of fields than its form.
-pub fn count_note<'a>(record: &Record, line: Line) -> Sentence<'a> {
+pub fn count_note<'a>(record: &Record, known: TaggedForm) -> Sentence<'a> {
     let count = record.len() as u64;
-    let wanted = line.form.split(',').count() as u64;
+    let wanted = known.form.split(',').count() as u64;
     let tail = if wanted < count {
-        why_more(record, line)
+        why_more(record, known)
     } else {
         ""
     };
@@ -46,7 +46,7 @@ pub fn count_note<'a>(record: &Record, line: Line) -> Sentence<'a> {
     } else {
         "it has #first# fields, and #why# has #second#"
     };
-    Sentence::words(wording, "", "", line.form).with(count, wanted, tail)
+    Sentence::words(wording, "", "", known.form).with(count, wanted, tail)
 }
 
 /// The tag of the record is none of these.

@@ -4,7 +4,7 @@ ghost use Rattle.std.specs.Prelude.{◌<◌};
 
 /// The tags of records.
 #[derive(Clone, Copy, PartialEq, Eq)]
-pub enum Tag {
+pub enum RecordTag {
     Item,
     Disk,
     Update,
@@ -24,59 +24,63 @@ pub enum Tag {
 
 /// A kind of record: its tag, the tag's name, and the form.
 #[derive(Clone, Copy)]
-pub struct Line {
-    pub tag: Tag,
+pub struct TaggedForm {
+    pub tag: RecordTag,
     pub name: &'static str,
     pub form: &'static str,
 }
 
 /// A row of a table of records.
-type Row = (Tag, &'static str, &'static str);
+type Row = (RecordTag, &'static str, &'static str);
 
 /// The records of a deck.
 const DECK: [Row; 7] = [
-    (Tag::Item, "item", "item,<id>,<value>,<rate>"),
-    (Tag::Disk, "disk", "disk,<size>,<freq>"),
-    (Tag::Update, "update", "update,<by>,<reads>,<writes>"),
-    (Tag::Reader, "reader", "reader,<room>,<age>,<tries>"),
-    (Tag::Query, "query", "query,<reader>,<items>"),
-    (Tag::Script, "script", "script,<events>"),
-    (Tag::Set, "set", "set,<name>,<value>"),
+    (RecordTag::Item, "item", "item,<id>,<value>,<rate>"),
+    (RecordTag::Disk, "disk", "disk,<size>,<freq>"),
+    (RecordTag::Update, "update", "update,<by>,<reads>,<writes>"),
+    (RecordTag::Reader, "reader", "reader,<room>,<age>,<tries>"),
+    (RecordTag::Query, "query", "query,<reader>,<items>"),
+    (RecordTag::Script, "script", "script,<events>"),
+    (RecordTag::Set, "set", "set,<name>,<value>"),
 ];
 
 /// The records of a report.
 const REPORT: [Row; 8] = [
-    (Tag::Start, "start", "start"),
-    (Tag::Commit, "commit", "commit,<by>,<seq>"),
+    (RecordTag::Start, "start", "start"),
+    (RecordTag::Commit, "commit", "commit,<by>,<seq>"),
     (
-        Tag::Accept,
+        RecordTag::Accept,
         "accept",
         "accept,<reader>,<query>,<attempt>,<reads>",
     ),
     (
-        Tag::Abort,
+        RecordTag::Abort,
         "abort",
         "abort,<reader>,<query>,<attempt>,<reads>,<item>@<cycle>,<clash>",
     ),
     (
-        Tag::Unfinished,
+        RecordTag::Unfinished,
         "unfinished",
         "unfinished,<reader>,<query>,<attempt>,<reads>",
     ),
     (
-        Tag::Counts,
+        RecordTag::Counts,
         "counts",
         "counts,<reader>,<opened>,<dozed>,<late>,<refused>,<foreign>,<copied>",
     ),
-    (Tag::Glance, "glance", "glance,<monitor>,<cycle>,<total>"),
-    (Tag::Look, "look", "look,<monitor>,<cycle>,<total>"),
+    (
+        RecordTag::Glance,
+        "glance",
+        "glance,<monitor>,<cycle>,<total>",
+    ),
+    (RecordTag::Look, "look", "look,<monitor>,<cycle>,<total>"),
 ];
 
 /// The record of this name in a table.
-fn line_in(rows: &[Row], wanted: &str) -> Option<Line> {
+fn form_in(rows: &[Row], wanted: &str) -> Option<TaggedForm> {
     for (tag, name, form) in rows {
         if *name == wanted {
-            return Some(Line {
+            return Some(TaggedForm {
                 tag: *tag,
                 name,
                 form,
@@ -87,8 +91,8 @@ fn line_in(rows: &[Row], wanted: &str) -> Option<Line> {
 }
 
 /// The record of a deck that has this name.
-pub fn deck_line(name: &str) -> Option<Line> {
-    line_in(&DECK, name)
+pub fn deck_form(name: &str) -> Option<TaggedForm> {
+    form_in(&DECK, name)
 }
 
 /// The name of the record of a deck that is this one but for capitals.
@@ -102,27 +106,32 @@ pub fn known_tag(wanted: &str) -> Option<&'static str> {
 }
 
 /// The record of a report that has this name.
-pub fn report_line(name: &str) -> Option<Line> {
-    line_in(&REPORT, name)
+pub fn report_form(name: &str) -> Option<TaggedForm> {
+    form_in(&REPORT, name)
 }
 
 /// The section of a report to which a record belongs: history, verdicts, counts, glances and looks.
-pub fn section(tag: Tag) -> usize
+pub fn section(tag: RecordTag) -> usize
     ensures { result < 5 }
 {
     match tag {
-        Tag::Accept | Tag::Abort | Tag::Unfinished => 1,
-        Tag::Counts => 2,
-        Tag::Glance => 3,
-        Tag::Look => 4,
+        RecordTag::Accept | RecordTag::Abort | RecordTag::Unfinished => 1,
+        RecordTag::Counts => 2,
+        RecordTag::Glance => 3,
+        RecordTag::Look => 4,
         _ => 0,
     }
 }
 
 /// Whether the records of a tag have a list.
-pub fn has_list(tag: Tag) -> bool {
+pub fn has_list(tag: RecordTag) -> bool {
     matches!(
         tag,
-        Tag::Update | Tag::Query | Tag::Script | Tag::Accept | Tag::Abort | Tag::Unfinished
+        RecordTag::Update
+            | RecordTag::Query
+            | RecordTag::Script
+            | RecordTag::Accept
+            | RecordTag::Abort
+            | RecordTag::Unfinished
     )
 }

@@ -3,7 +3,7 @@
 use crate::records::Record;
 use crate::records::before::RecordsBefore;
 use crate::records::lists::{item_of, parts_in, times_in};
-use crate::records::tags::Tag;
+use crate::records::tags::RecordTag;
 use crate::words::sentences::Sentence;
 use air_base::limits::MOST_UPDATERS;
 use item_catalog::Deck;
@@ -95,25 +95,25 @@ fn abort_note(next: u64, record: &Record) -> Option<Sentence<'static>> {
 }
 
 /// The reads of an attempt don't follow its query; none where they do.
-fn items_note(query: &[u16], record: &Record, tag: Tag) -> Option<Sentence<'static>> {
+fn items_note(query: &[u16], record: &Record, tag: RecordTag) -> Option<Sentence<'static>> {
     if let Some(sentence) = read_note(query, record.field(4)) {
         return Some(sentence);
     }
     let count = parts_in(record.field(4));
     let wording = match query.get(count as usize) {
-        Some(_) if tag == Tag::Accept => {
+        Some(_) if tag == RecordTag::Accept => {
             "has #first# of the #second# items of its query, and an accept has each"
         }
-        Some(item) if tag == Tag::Abort => return abort_note(*item as u64, record),
+        Some(item) if tag == RecordTag::Abort => return abort_note(*item as u64, record),
         Some(_) => return None,
-        None if tag == Tag::Accept => return None,
+        None if tag == RecordTag::Accept => return None,
         None => "has each item of its query, as an accept alone has",
     };
     Some(Sentence::numbers(wording, count, query.len() as u64, 0))
 }
 
 /// A verdict isn't on an attempt of the deck: by its reader, its attempt, its query or its items; none where it is.
-fn attempt_note(deck: &Deck, record: &Record, tag: Tag) -> Option<Sentence<'static>> {
+fn attempt_note(deck: &Deck, record: &Record, tag: RecordTag) -> Option<Sentence<'static>> {
     let last = record.number(1);
     let readers = deck.readers() as u64;
     if readers <= last {
@@ -136,11 +136,11 @@ fn attempt_note(deck: &Deck, record: &Record, tag: Tag) -> Option<Sentence<'stat
 }
 
 /// What a line names isn't the deck's; none where it is.
-pub fn stranger_note(deck: &Deck, record: &Record, tag: Tag) -> Option<Sentence<'static>> {
+pub fn stranger_note(deck: &Deck, record: &Record, tag: RecordTag) -> Option<Sentence<'static>> {
     let number = record.number(1);
     match tag {
-        Tag::Counts => stranger(number, deck.readers() as u64, "reader", "readers"),
-        Tag::Glance | Tag::Look => {
+        RecordTag::Counts => stranger(number, deck.readers() as u64, "reader", "readers"),
+        RecordTag::Glance | RecordTag::Look => {
             let count = deck.settings().monitors as u64;
             stranger(number, count, "monitor", "monitors")
         }

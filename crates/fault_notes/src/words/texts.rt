@@ -56,7 +56,7 @@ pub fn space_of(text: &str) -> &'static str {
 }
 
 /// What stands before the first byte of this value, and what stands behind it; none where there is no such byte.
-pub fn cut_at(bytes: &[u8], mark: u8) -> Option<(&[u8], &[u8])> {
+pub fn parted_at(bytes: &[u8], mark: u8) -> Option<(&[u8], &[u8])> {
     for place in 0..bytes.len() {
         if bytes[place] == mark {
             return Some((&bytes[..place], &bytes[place + 1..]));
@@ -67,17 +67,17 @@ pub fn cut_at(bytes: &[u8], mark: u8) -> Option<(&[u8], &[u8])> {
 
 /// What stands before the first byte of this value; all where there is no such byte.
 pub fn text_before(bytes: &[u8], mark: u8) -> &[u8] {
-    match cut_at(bytes, mark) {
-        Some((front, _)) => front,
+    match parted_at(bytes, mark) {
+        Some((leading, _)) => leading,
         None => bytes,
     }
 }
 
 /// What stands on both sides of the first `+`, or, where there is none, of the first `-`; none where there is no sign.
-pub fn cut_at_sign(bytes: &[u8]) -> Option<(&[u8], &[u8])> {
-    match cut_at(bytes, b'+') {
+pub fn parted_at_sign(bytes: &[u8]) -> Option<(&[u8], &[u8])> {
+    match parted_at(bytes, b'+') {
         Some(sides) => Some(sides),
-        None => cut_at(bytes, b'-'),
+        None => parted_at(bytes, b'-'),
     }
 }
 
@@ -104,8 +104,8 @@ const MARKS: [(u8, &str); 3] = [
 /// Why digits with a mark among them are no number, or `None`.
 fn why_marked(bytes: &[u8]) -> Option<&'static str> {
     for (mark, why) in MARKS {
-        if let Some((front, rest)) = cut_at(bytes, mark)
-            && is_digits(front)
+        if let Some((leading, rest)) = parted_at(bytes, mark)
+            && is_digits(leading)
             && is_digits(text_before(rest, mark))
         {
             return Some(why);

@@ -11,7 +11,7 @@ use Rattle.item_catalog.specs.Decks.{for_each, plain_item, with_freqs}
 use Rattle.item_catalog.specs.Settings.{number_in, settings_in}
 use Rattle.item_catalog.specs.declared.deck.draft.settings.Name.TheVariants.{Delta}
 use Rattle.item_catalog.specs.RecordKinds.{least_kind, with_spelled}
-use Rattle.item_catalog.specs.Private.ReadAnswers.{Answers}
+use Rattle.item_catalog.specs.ReadAnswers.{Answers}
 use Rattle.item_catalog.specs.declared.records.refusals.Refusal.{Refusal}
 use Rattle.item_catalog.specs.Faults.{item_tests, disk_tests, update_tests, reader_tests, query_tests, script_tests, set_tests}
 use Rattle.item_catalog.specs.declared.faults.FaultKind.{FaultKind}
@@ -53,27 +53,27 @@ push_at lists place x = slice_set lists place (get_or lists place [] ++ x ∷ []
 
 -- One more declaration.
 abbrev pub with_declaration : DraftValue → Declaration → DraftValue
-with_declaration d (e.Item id value rate) = record d { items = d.items ++ record { value = value; rate = rate } ∷ [] }
-with_declaration d (e.Disk size freq) = record d { disks = d.disks ++ record { size = size; freq = freq } ∷ [] }
-with_declaration d (e.Update by reads writes) = record d {
+with_declaration d (e.DeclaredItem id value rate) = record d { items = d.items ++ record { value = value; rate = rate } ∷ [] }
+with_declaration d (e.DeclaredDisk size freq) = record d { disks = d.disks ++ record { size = size; freq = freq } ∷ [] }
+with_declaration d (e.DeclaredUpdate by reads writes) = record d {
   updates = push_at d.updates by (record { reads = reads; writes = writes });
   updaters = max d.updaters (by + 1);
   update_count = d.update_count + 1;
 }
-with_declaration d (e.Reader room age tries) = record d { readers = d.readers ++ record { room = room; age = age; tries = tries } ∷ [] }
-with_declaration d (e.Query reader items) = record d { queries = push_at d.queries reader items; query_count = d.query_count + 1 }
-with_declaration d (e.Script events) = record d { script = d.script ++ events }
-with_declaration d (e.Set setting) = record d { set = d.set ++ setting ∷ [] }
+with_declaration d (e.DeclaredReader room age tries) = record d { readers = d.readers ++ record { room = room; age = age; tries = tries } ∷ [] }
+with_declaration d (e.DeclaredQuery reader items) = record d { queries = push_at d.queries reader items; query_count = d.query_count + 1 }
+with_declaration d (e.DeclaredScript events) = record d { script = d.script ++ events }
+with_declaration d (e.DeclaredSetting setting) = record d { set = d.set ++ setting ∷ [] }
 
 -- The kinds that a declaration may have after the parts so far, by rising kind, each with its test.
 abbrev pub draft_tests : DraftValue → Declaration → List (FaultKind × Bool)
-draft_tests d (e.Item id value rate) = item_tests (length d.items) id rate
-draft_tests d (e.Disk size freq) = disk_tests (length d.disks) size freq
-draft_tests d (e.Update by reads writes) = update_tests (length d.items) d.update_count by reads writes
-draft_tests d (e.Reader room age tries) = reader_tests (length d.readers) room age tries
-draft_tests d (e.Query reader items) = query_tests (length d.items) (length d.readers) d.query_count reader items
-draft_tests d (e.Script events) = script_tests (λ by. length (get_or d.updates by [])) d.script events
-draft_tests d (e.Set setting) = set_tests d.set setting
+draft_tests d (e.DeclaredItem id value rate) = item_tests (length d.items) id rate
+draft_tests d (e.DeclaredDisk size freq) = disk_tests (length d.disks) size freq
+draft_tests d (e.DeclaredUpdate by reads writes) = update_tests (length d.items) d.update_count by reads writes
+draft_tests d (e.DeclaredReader room age tries) = reader_tests (length d.readers) room age tries
+draft_tests d (e.DeclaredQuery reader items) = query_tests (length d.items) (length d.readers) d.query_count reader items
+draft_tests d (e.DeclaredScript events) = script_tests (λ by. length (get_or d.updates by [])) d.script events
+draft_tests d (e.DeclaredSetting setting) = set_tests d.set setting
 
 -- The deck of the parts.
 abbrev pub deck_from : DraftValue → Deck
@@ -98,8 +98,8 @@ AddsDeclaration result spelled old new = Answers result (record_kind old spelled
 
 -- A call reads what an update spells, and adds nothing.
 abbrev pub UpdateRead : Result (ℕ × UpdateLists) (Refusal FaultKind) → Result Declaration FaultKind → DraftValue → Type 0
-UpdateRead result spelled d = Answers result (record_kind d spelled) (λ read. spelled ≡ Ok (e.Update read.0 read.1.reads read.1.writes))
+UpdateRead result spelled d = Answers result (record_kind d spelled) (λ read. spelled ≡ Ok (e.DeclaredUpdate read.0 read.1.reads read.1.writes))
 
 -- The same for a query.
 abbrev pub QueryRead : Result (ℕ × List ℕ) (Refusal FaultKind) → Result Declaration FaultKind → DraftValue → Type 0
-QueryRead result spelled d = Answers result (record_kind d spelled) (λ read. spelled ≡ Ok (e.Query read.0 read.1))
+QueryRead result spelled d = Answers result (record_kind d spelled) (λ read. spelled ≡ Ok (e.DeclaredQuery read.0 read.1))

@@ -12,7 +12,7 @@ ghost use Rattle.item_catalog.specs.Private.Drafts.{AddsDeclaration, deck_from, 
 ghost use Rattle.item_catalog.specs.Settings.{number_in};
 ghost use Rattle.item_catalog.specs.Declarations.{disk_by, item_by, reader_by, spelled_declaration};
 ghost use Rattle.item_catalog.specs.Faults.{end_tests};
-ghost use Rattle.air_base.specs.Pieces.{three_of, two_of};
+ghost use Rattle.air_base.specs.Parts.{three_of, two_of};
 
 mod lists;
 pub(crate) mod settings;
@@ -58,7 +58,7 @@ pub struct Draft {
 
 impl Model for Draft {
     ghost use Rattle.item_catalog.specs.Private.Drafts.{DraftValue};
-    ghost use Rattle.item_catalog.specs.Private.DraftView.{DraftKept, draft_seen};
+    ghost use Rattle.item_catalog.specs.Private.DraftFields.{DraftKept, draft_seen};
 
     ghost Value = { DraftValue };
 
@@ -111,10 +111,10 @@ impl Draft {
     }
 
     /// Adds the item of a record.
-    pub fn add_item(&mut self, row: &ByteRecord) -> Result<(), Refusal<FaultKind>>
-        ensures { AddsDeclaration result (item_by (three_of (drop 1 (fields_of row.now)))) self.old self.new }
+    pub fn add_item(&mut self, fields: &ByteRecord) -> Result<(), Refusal<FaultKind>>
+        ensures { AddsDeclaration result (item_by (three_of (drop 1 (fields_of fields.now)))) self.old self.new }
     {
-        let Some((id, value, rate)) = three(row) else {
+        let Some((id, value, rate)) = three(fields) else {
             return Err(Refusal::Kind(FaultKind::Fields));
         };
         let Some(id) = read_u64(id) else {
@@ -138,10 +138,10 @@ impl Draft {
     }
 
     /// Adds the disk of a record.
-    pub fn add_disk(&mut self, row: &ByteRecord) -> Result<(), Refusal<FaultKind>>
-        ensures { AddsDeclaration result (disk_by (two_of (drop 1 (fields_of row.now)))) self.old self.new }
+    pub fn add_disk(&mut self, fields: &ByteRecord) -> Result<(), Refusal<FaultKind>>
+        ensures { AddsDeclaration result (disk_by (two_of (drop 1 (fields_of fields.now)))) self.old self.new }
     {
-        let Some((size, freq)) = two(row) else {
+        let Some((size, freq)) = two(fields) else {
             return Err(Refusal::Kind(FaultKind::Fields));
         };
         let Some(size) = read_u64(size) else {
@@ -161,10 +161,10 @@ impl Draft {
     }
 
     /// Adds the reader of a record.
-    pub fn add_reader(&mut self, row: &ByteRecord) -> Result<(), Refusal<FaultKind>>
-        ensures { AddsDeclaration result (reader_by (three_of (drop 1 (fields_of row.now)))) self.old self.new }
+    pub fn add_reader(&mut self, fields: &ByteRecord) -> Result<(), Refusal<FaultKind>>
+        ensures { AddsDeclaration result (reader_by (three_of (drop 1 (fields_of fields.now)))) self.old self.new }
     {
-        let Some((room, age, tries)) = three(row) else {
+        let Some((room, age, tries)) = three(fields) else {
             return Err(Refusal::Kind(FaultKind::Fields));
         };
         let Some(room) = read_u64(room) else {
@@ -193,17 +193,17 @@ impl Draft {
     }
 
     /// Adds what a record spells.
-    pub fn add(&mut self, alloc: Global, row: &ByteRecord) -> Result<(), Refusal<FaultKind>>
-        ensures { AddsDeclaration result (spelled_declaration (fields_of row.now)) self.old self.new }
+    pub fn add(&mut self, alloc: Global, fields: &ByteRecord) -> Result<(), Refusal<FaultKind>>
+        ensures { AddsDeclaration result (spelled_declaration (fields_of fields.now)) self.old self.new }
     {
-        match read_tag(row) {
-            Some(Tag::Item) => self.add_item(row),
-            Some(Tag::Disk) => self.add_disk(row),
-            Some(Tag::Update) => self.add_update(alloc, row),
-            Some(Tag::Reader) => self.add_reader(row),
-            Some(Tag::Query) => self.add_query(alloc, row),
-            Some(Tag::Script) => self.add_events(row),
-            Some(Tag::Set) => self.add_setting(row),
+        match read_tag(fields) {
+            Some(Tag::Item) => self.add_item(fields),
+            Some(Tag::Disk) => self.add_disk(fields),
+            Some(Tag::Update) => self.add_update(alloc, fields),
+            Some(Tag::Reader) => self.add_reader(fields),
+            Some(Tag::Query) => self.add_query(alloc, fields),
+            Some(Tag::Script) => self.add_events(fields),
+            Some(Tag::Set) => self.add_setting(fields),
             None => Err(Refusal::Kind(FaultKind::Tag)),
         }
     }

@@ -11,7 +11,7 @@ ghost use Rattle.item_catalog.specs.declared.deck.drill.TheConstants.{MOST_DRILL
 
 use crate::deck::Deck;
 use crate::drills::draws::{draw_item, draw_query, draw_update};
-use crate::drills::plans::{drill_readers, drill_settings};
+use crate::drills::settings::{drill_readers, drill_settings};
 use crate::laws::drill_law;
 use crate::parts::{DiskPart, ItemPart, Queries, Query, Updates};
 use crate::scripts::Script;

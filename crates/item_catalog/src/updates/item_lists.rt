@@ -116,7 +116,7 @@ impl ItemList {
         self.marks[place] = true;
     }
 
-    /// Takes the items of the plain parts at the front of a list, up to the place at which the rest begins.
+    /// Takes the items of the leading plain parts of a list, up to the place at which the rest begins.
     #[inline(always)]
     fn read_plain(&mut self, declared: u16, text: &[u8]) -> usize
         requires known { declared ≤ MOST_ITEMS }

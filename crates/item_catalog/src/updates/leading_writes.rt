@@ -1,10 +1,10 @@
-//! The write at the front of a list, and what follows it.
+//! The leading write of a list, and what follows it.
 //!
 //! What is left at a list's end is mostly a plain part, and is read as such where it is one.
 
 ghost use Rattle.std.specs.Prelude.{◌≡◌, ◌∷◌, option_map, MatchOption, Some, None, false};
 ghost use Rattle.air_base.specs.Numbers.{number_of};
-ghost use Rattle.air_base.specs.LeadingParts.{FrontIs, begins};
+ghost use Rattle.air_base.specs.LeadingParts.{LeadingIs, begins};
 ghost use Rattle.item_catalog.specs.Writes.{spelled_value_write, spelled_write, write_on_base};
 ghost use Rattle.item_catalog.specs.Private.WriteParts.{sign_of, write_said};
 
@@ -28,7 +28,7 @@ fn leading_changed_write(
     minus: bool,
     text: &[u8],
 ) -> Option<(WritePart, &[u8])>
-    ensures { FrontIs (λ part. write_on_base minus (Some item) (Some base) (number_of part)) text.now (option_map (λ f. (write_said f.0, f.1.now)) result) }
+    ensures { LeadingIs (λ part. write_on_base minus (Some item) (Some base) (number_of part)) text.now (option_map (λ f. (write_said f.0, f.1.now)) result) }
 {
     match read_leading_number(text) {
         Some((amount, rest)) => Some((
@@ -44,7 +44,7 @@ fn leading_changed_write(
     }
 }
 
-/// Whether the sign at the front is a minus, and the text behind it.
+/// Whether the leading sign is a minus, and the text behind it.
 fn read_sign(text: &[u8]) -> Option<(bool, &[u8])>
     ensures { MatchOption result ((begins 43 text.now ≡ false) × (begins 45 text.now ≡ false)) (λ s. text.now ≡ sign_of s.0 ∷ s.1.now) }
 {
@@ -55,10 +55,10 @@ fn read_sign(text: &[u8]) -> Option<(bool, &[u8])>
 }
 
 /// The write of an item, by the text behind the `=`.
-#[tactic(auto, using(crate::proofs::PartFronts::value_number_front, crate::proofs::PartFronts::value_no_number, crate::proofs::PartFronts::value_other_front, crate::proofs::PartFronts::after_digits_alone))]
+#[tactic(auto, using(crate::proofs::LeadingWriteLemmas::value_number_leading, crate::proofs::LeadingWriteLemmas::value_no_number, crate::proofs::LeadingWriteLemmas::value_other_leading, crate::proofs::LeadingWriteLemmas::after_digits_alone))]
 #[inline(always)]
 fn leading_value_write(item: u64, text: &[u8]) -> Option<(WritePart, &[u8])>
-    ensures { FrontIs (spelled_value_write (Some item)) text.now (option_map (λ f. (write_said f.0, f.1.now)) result) }
+    ensures { LeadingIs (spelled_value_write (Some item)) text.now (option_map (λ f. (write_said f.0, f.1.now)) result) }
 {
     let Some((amount, rest)) = leading_number(text) else {
         return None;
@@ -79,10 +79,10 @@ fn leading_value_write(item: u64, text: &[u8]) -> Option<(WritePart, &[u8])>
 }
 
 /// The write that the first part spells.
-#[tactic(auto, using(crate::proofs::PartFronts::write_value_front, crate::proofs::PartFronts::write_no_number, crate::proofs::PartFronts::write_other_front, crate::proofs::PartFronts::after_digits_byte))]
+#[tactic(auto, using(crate::proofs::LeadingWriteLemmas::write_value_leading, crate::proofs::LeadingWriteLemmas::write_no_number, crate::proofs::LeadingWriteLemmas::write_other_leading, crate::proofs::LeadingWriteLemmas::after_digits_byte))]
 #[inline(always)]
 pub fn leading_write(text: &[u8]) -> Option<(WritePart, &[u8])>
-    ensures { FrontIs spelled_write text.now (option_map (λ f. (write_said f.0, f.1.now)) result) }
+    ensures { LeadingIs spelled_write text.now (option_map (λ f. (write_said f.0, f.1.now)) result) }
 {
     if text.len() < PLAIN_BYTES
         && let Some((write, end)) = last_write(text)

@@ -164,7 +164,7 @@ impl WriteList {
         }
     }
 
-    /// Takes the writes of the plain parts at the front of a list, up to the place at which the rest begins.
+    /// Takes the writes of the leading plain parts of a list, up to the place at which the rest begins.
     #[inline(always)]
     fn read_plain(&mut self, declared: u16, reads: &ItemList, text: &[u8]) -> usize
         requires known { declared ≤ MOST_ITEMS }

@@ -15,8 +15,8 @@ module _ {K E B : Type 0} (entries : K → List (ℕ × E)) (base : K → B) whe
   Sat = Me (Option K) (View E B)
 
   -- The number found is the ticket.
-  abbrev pub HasDrawn : Step (Option K) → Sat → ℕ → Sat → Type 0
-  HasDrawn st m r m' = m' ≡ (record m.0 { ticket = Some r }, m.1)
+  abbrev pub HasTicket : Step (Option K) → Sat → ℕ → Sat → Type 0
+  HasTicket st m r m' = m' ≡ (record m.0 { ticket = Some r }, m.1)
 
   -- The pass has the value, which has its base and goes on from what it has seen by entries of others.
   abbrev pub Opens : Sat → Sat → Type 0

@@ -23,8 +23,8 @@ abbrev pub once_below : ℕ → ℕ → ℕ
 once_below n bound = cond (leb (suc n) bound) 1 0
 
 -- No two views have one ticket.
-abbrev pub Apart : {E B : Type 0} → List (View E B) → Type 0
-Apart {E} {B} views = (i j : ℕ) (v w : View E B) (t : ℕ) → get_elem? views i ≡ some v → get_elem? views j ≡ some w → v.ticket ≡ Some t → w.ticket ≡ Some t → i ≡ j
+abbrev pub HaveOwnTickets : {E B : Type 0} → List (View E B) → Type 0
+HaveOwnTickets {E} {B} views = (i j : ℕ) (v w : View E B) (t : ℕ) → get_elem? views i ≡ some v → get_elem? views j ≡ some w → v.ticket ≡ Some t → w.ticket ≡ Some t → i ≡ j
 
 -- The value is in its slot, or out with the seat of this number.
 pub data Phase : Type 0 where
@@ -55,7 +55,7 @@ module _ {K E B : Type 0} (entries : K → List (ℕ × E)) (base : K → B) whe
 
   -- The rule itself, of the words, the slot and the views of a state: next is the next ticket, serving the one that is
   -- served, now and based the list and the base of the value, passes the number of passes, and phase where the value is.
-  pub record Kept (s : State (Option K) (View E B)) : Type 0 where
+  pub record IsByRule (s : State (Option K) (View E B)) : Type 0 where
     pub next : ℕ
     pub serving : ℕ
     pub now : List (ℕ × E)
@@ -70,5 +70,5 @@ module _ {K E B : Type 0} (entries : K → List (ℕ × E)) (base : K → B) whe
     pub once : (n : ℕ) → total (λ v. times n v.sight.numbers) s.views ≡ once_below n passes
     pub numbered : Below passes now
     pub each_seat : (j : ℕ) (v : View E B) → get_elem? s.views j ≡ some v → Knows now based passes serving (total waits s.views) phase j v
-    pub apart : Apart s.views
+    pub apart : HaveOwnTickets s.views
     pub in_phase : InPhase s.homes s.views now based phase

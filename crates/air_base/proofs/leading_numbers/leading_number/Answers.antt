@@ -2,7 +2,7 @@ use Rattle.std.proofs.Common.{◌≡◌, ◌≤◌, ◌∙◌, ◌-◌, false, a
 use Rattle.std.specs.Char.{is_ascii_digit}
 use Rattle.std.proofs.lemmas.List.{take_all}
 use Rattle.air_base.specs.LeadingParts.{DigitsRead}
-use Rattle.air_base.proofs.LeadingNumbers.{front_number, rest_read}
+use Rattle.air_base.proofs.LeadingNumbers.{digits_number, rest_read}
 use Rattle.air_base.proofs.leading_numbers.leading_number.Goals as goal
 
 pub returns : goal.returns
@@ -15,6 +15,6 @@ returns c =
     let read = subst (λ k. DigitsRead text k number) same short.2.2 in
     let within : few ≤ length text = omega (arith, short.1, short.2.1, c.if-text-ge4.true) in
     let stop : is_ascii_digit (get_or text few 0) ≡ false = sym c.if-not-is_ascii_digit.ensures.value in (
-      front_number text few number read within stop (omega (arith, short.1, short.2.0)) (λ zero. sym same ∙ short.2.3 zero),
+      digits_number text few number read within stop (omega (arith, short.1, short.2.0)) (λ zero. sym same ∙ short.2.3 zero),
       take_all (length text - few) (drop few text) (omega (arith, length-drop few text)) ∙ rest_read text few number read within stop,
     )

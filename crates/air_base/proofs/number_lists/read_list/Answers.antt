@@ -5,7 +5,7 @@ use Rattle.air_base.specs.Numbers.{number_of}
 use Rattle.air_base.specs.NumberLists.{list_of}
 use Rattle.air_base.specs.ReadParts.{part_values}
 use Rattle.air_base.proofs.BadParts.{bad_here, bad_more, bad_start}
-use Rattle.air_base.proofs.ListFronts.{after_short, prepend_none, list_empty, list_last, list_more, list_spelled}
+use Rattle.air_base.proofs.LeadingListLemmas.{after_short, prepend_none, list_empty, list_last, list_more, list_spelled}
 use Rattle.air_base.proofs.number_lists.read_list.Goals as goal
 
 pub returns-then-is_empty-clause-numbers : goal.returns-then-is_empty-clause-numbers

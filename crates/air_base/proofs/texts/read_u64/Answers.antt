@@ -3,7 +3,7 @@ use Rattle.std.proofs.lemmas.Bool.Decides.{nat_tests}
 use Rattle.std.proofs.lemmas.List.{nil_from_length}
 use Rattle.air_base.specs.LeadingParts.{after_digits}
 use Rattle.air_base.specs.Numbers.{number_of}
-use Rattle.air_base.proofs.NumberFronts.{more_whole, no_whole, whole_number}
+use Rattle.air_base.proofs.LeadingNumberLemmas.{more_whole, no_whole, whole_number}
 use Rattle.air_base.proofs.texts.read_u64.Goals as goal
 
 pub returns : goal.returns

@@ -3,7 +3,7 @@ use Rattle.air_model.specs.Disks.{all_items}
 use Rattle.air_model.specs.Programs.{program as slots_of}
 use Rattle.air_model.specs.Buckets.{spelling}
 use Rattle.air_devices.specs.Masts.{Changes, with_buckets}
-use Rattle.air_sender.specs.BoardBuckets.{bucket_on, cycle_bytes}
+use Rattle.air_sender.specs.BoardBuckets.{board_bytes, bucket_on}
 use Rattle.air_sender.specs.declared.airing.AirFault.TheVariants as fault
 use Rattle.air_sender.proofs.SendLemmas.{last_bytes_are, length_cycle, refused, sent_all, sent_more, sent_up_to, slot_bytes, well}
 use Rattle.air_sender.proofs.airing.air_cycle.Goals as goal
@@ -27,7 +27,7 @@ loop-slot-preserved g c =
     let s = c.loop-slot.slot in
     let within : s < length slots = omega (arith, c.slots-slot-end.ensures.counted) in
     record {
-      sent = sent_more (cycle_bytes form 0 slots board) (spelling (bucket_on form 0 slots board s)) s _ _ _ (omega (arith, length_cycle form 0 slots board)) (slot_bytes form 0 slots board s within)
+      sent = sent_more (board_bytes form 0 slots board) (spelling (bucket_on form 0 slots board s)) s _ _ _ (omega (arith, length_cycle form 0 slots board)) (slot_bytes form 0 slots board s within)
           c.loop-slot.invariant.sent (well c.air_slot.result c.is_err.result c.is_err.ensures.value c.if-is_err.false c.air_slot.ensures.sent);
       calm = well c.air_slot.result c.is_err.result c.is_err.ensures.value c.if-is_err.false c.air_slot.ensures.cause.calm ∙ c.loop-slot.invariant.calm;
       port = c.air_slot.ensures.port ∙ c.loop-slot.invariant.port;
@@ -38,7 +38,7 @@ returns-clause-aired g c =
     let form = c.args.form in
     let slots = slots_of c.args.program.now in
     let board = c.args.board.now in
-    sent_all (cycle_bytes form 0 slots board) c.loop-slot.slot _ _ (omega (arith, length_cycle form 0 slots board, c.slots-slot-end.ensures.counted)) c.loop-slot.invariant.sent
+    sent_all (board_bytes form 0 slots board) c.loop-slot.slot _ _ (omega (arith, length_cycle form 0 slots board, c.slots-slot-end.ensures.counted)) c.loop-slot.invariant.sent
 
 pub returns-clause-history : goal.returns-clause-history
 returns-clause-history g c values air G is =

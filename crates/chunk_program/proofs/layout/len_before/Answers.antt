@@ -1,7 +1,7 @@
 use Rattle.std.proofs.Common.{◌≡◌, ◌+◌, arith, ap, ◌∙◌, take}
 use Rattle.std.proofs.lemmas.List.{length-take-le}
 use Rattle.air_model.specs.Programs.{chunk_len, minor_len}
-use Rattle.chunk_program.proofs.ChunkLemmas.{chunk_len_few, freq_some, front_disk, chunks_some, len_more, len_none}
+use Rattle.chunk_program.proofs.ChunkLemmas.{chunk_len_few, freq_some, earlier_disk, chunks_some, len_more, len_none}
 use Rattle.chunk_program.proofs.layout.len_before.Goals as goal
 
 pub loop-disk-init : goal.loop-disk-init
@@ -10,19 +10,19 @@ loop-disk-init c = record { counted = len_none c.args.minors; under = omega arit
 pub chunk_len-len-requires-clause-aired : goal.chunk_len-len-requires-clause-aired
 chunk_len-len-requires-clause-aired c =
     let disks = c.args.disks.now in let k = c.loop-disk.disk-index in let d = c.disk-item.result in
-    let own = front_disk disks c.args.n k d c.requires.within c.loop-disk-test.true c.disk-item.is in
+    let own = earlier_disk disks c.args.n k d c.requires.within c.loop-disk-test.true c.disk-item.is in
     freq_some disks c.requires.limits k d own.at
 
 pub chunk_len-len-requires-clause-some : goal.chunk_len-len-requires-clause-some
 chunk_len-len-requires-clause-some c =
     let disks = c.args.disks.now in let k = c.loop-disk.disk-index in let d = c.disk-item.result in
-    let own = front_disk disks c.args.n k d c.requires.within c.loop-disk-test.true c.disk-item.is in
+    let own = earlier_disk disks c.args.n k d c.requires.within c.loop-disk-test.true c.disk-item.is in
     rw c.requires.minors (chunks_some disks c.requires.limits k d own.at)
 
 pub overflow_add-len : goal.overflow_add-len
 overflow_add-len c =
     let disks = c.args.disks.now in let k = c.loop-disk.disk-index in let d = c.disk-item.result in
-    let own = front_disk disks c.args.n k d c.requires.within c.loop-disk-test.true c.disk-item.is in
+    let own = earlier_disk disks c.args.n k d c.requires.within c.loop-disk-test.true c.disk-item.is in
     let few = chunk_len_few disks c.requires.limits k d own.at in
     let len = c.chunk_len-len.ensures ∙ ap (λ m. chunk_len m d) c.requires.minors in
     let under = c.loop-disk.invariant.under in let eight = c.requires.limits.eight in let within = own.within in omega arith
@@ -30,7 +30,7 @@ overflow_add-len c =
 pub loop-disk-preserved : goal.loop-disk-preserved
 loop-disk-preserved c =
     let disks = c.args.disks.now in let k = c.loop-disk.disk-index in let d = c.disk-item.result in
-    let own = front_disk disks c.args.n k d c.requires.within c.loop-disk-test.true c.disk-item.is in
+    let own = earlier_disk disks c.args.n k d c.requires.within c.loop-disk-test.true c.disk-item.is in
     let len = c.chunk_len-len.ensures in
     record {
       counted = ap (λ l. c.loop-disk.len + l) len ∙ len_more c.args.minors disks k d c.loop-disk.len own.within own.is c.loop-disk.invariant.counted;

@@ -9,7 +9,7 @@ use Rattle.air_history.specs.ClashLaws.{HasCappedEntries, HaveAiredEntries}
 use Rattle.air_history.specs.Columns.{aired_entries, scheme_of}
 use Rattle.air_history.specs.HeldReads.{HeldReads}
 use Rattle.held_reads.specs.HeardReads.{heard_read}
-use Rattle.core_pins.specs.SmallReads.{heard}
+use Rattle.core_pins.specs.SmallReads.{read_with_entries}
 use Rattle.core_pins.proofs.vector_pins.capped_one_cycle_late.Goals as goal
 
 each_of_three : (P : ℕ → Type 0) → P 0 → P 1 → P 2 → (k : ℕ) → k < 3 → P k
@@ -26,14 +26,14 @@ old : IsTold (0 ∷ 0 ∷ 2 ∷ []) (0 ∷ 1 ∷ 2 ∷ []) 256 1
 unfolding capped
 old = inr refl
 
-close : spans_too_far (read_at (heard 0 2 0 1 0) ∷ read_at (heard 2 256 0 0 2) ∷ []) ≡ false
+close : spans_too_far (read_at (read_with_entries 0 2 0 1 0) ∷ read_at (read_with_entries 2 256 0 0 2) ∷ []) ≡ false
 unfolding spans_too_far span
 close = refl
 
 are : (H : List Event) → aired_entries (scheme_of Datacycle) 3 H 2 0 ≡ 0 ∷ 1 ∷ 0 ∷ [] → aired_entries (scheme_of Datacycle) 3 H 256 2 ≡ 0 ∷ 1 ∷ 2 ∷ [] →
-    HaveAiredEntries (scheme_of Datacycle) 3 H (heard 0 2 0 1 0 ∷ []) (heard 2 256 0 0 2)
+    HaveAiredEntries (scheme_of Datacycle) 3 H (read_with_entries 0 2 0 1 0 ∷ []) (read_with_entries 2 256 0 0 2)
 are H at_two at_last = inr (
-  All-from_recursion (HasCappedEntries (scheme_of Datacycle) 3 H) (heard 0 2 0 1 0 ∷ []) (
+  All-from_recursion (HasCappedEntries (scheme_of Datacycle) 3 H) (read_with_entries 0 2 0 1 0 ∷ []) (
     record {
       cycle = omega arith;
       within = omega arith;

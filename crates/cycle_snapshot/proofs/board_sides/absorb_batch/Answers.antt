@@ -1,5 +1,5 @@
 use Rattle.std.proofs.Common.{sym, ap, ◌∙◌, arith}
-use Rattle.cycle_snapshot.specs.Private.BoardRuns.{step_all}
+use Rattle.control_matrix.specs.BoardSteps.{step_all}
 use Rattle.cycle_snapshot.proofs.BatchLemmas.{batch_taken, batch_starts, other_items, no_cycle}
 use Rattle.cycle_snapshot.proofs.board_sides.absorb_batch.Goals as goal
 

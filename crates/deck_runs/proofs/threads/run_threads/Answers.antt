@@ -36,7 +36,7 @@ pub end-history-requires : goal.end-history-requires
 unfolding HasAired
 end-history-requires g c =
     let played = c.play-conducted.ensures in
-    is_played c.in_ok-stage.stage c.play-conducted.new.self c.in_ok-stage.ensures.opened played.conducted.pass played.conducted.few played.updaters played.kept.0 played.kept.1 played.kept.2
+    is_played c.in_ok-stage.stage c.play-conducted.new.self c.in_ok-stage.ensures.unplayed played.conducted.pass played.conducted.few played.updaters played.kept.0 played.kept.1 played.kept.2
 
 pub all_sights-sights-requires-clause-own : goal.all_sights-sights-requires-clause-own
 unfolding HasAired

@@ -1,4 +1,4 @@
-use Rattle.std.proofs.Common.{◌≡◌, ◌∙◌, length, sym, ap, arith}
+use Rattle.std.proofs.Common.{◌≡◌, ◌∙◌, length, ap, arith}
 use Rattle.air_base.specs.declared.verdicts.Form.{Form}
 use Rattle.air_history.specs.Histories.{starts}
 use Rattle.air_model.specs.declared.deck.Settings.{Settings}

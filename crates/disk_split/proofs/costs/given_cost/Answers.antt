@@ -4,7 +4,7 @@ use Rattle.std.proofs.lemmas.List.{get_or-map, length-map}
 use Rattle.std.proofs.lemmas.Option.{MatchOption-at_some, slice_get-get_or}
 use Rattle.air_model.specs.Disks.{DiskSpec}
 use Rattle.disk_split.specs.Splits.{sizes_in}
-use Rattle.disk_split.specs.Private.Rests.{IsSplitRest, chunk_slots, minor_from, rates_from, weight_from}
+use Rattle.disk_split.specs.Rests.{IsSplitRest, chunk_slots, minor_from, rates_from, weight_from}
 use Rattle.disk_split.proofs.CostSteps.{chunk_some, chunk_within, end_within, next_minor, next_rest, next_weight, nothing_left, own_weight_small}
 use Rattle.disk_split.proofs.RestLemmas.{slots_few, weight_small}
 use Rattle.disk_split.proofs.costs.given_cost.Goals as goal

@@ -1,6 +1,6 @@
 use Rattle.std.proofs.Common.{◌≡◌, ◌+◌, drop}
 use Rattle.disk_split.specs.Splits.{sizes_in}
-use Rattle.disk_split.specs.Private.Rests.{IsSplitRest, minor_from, weight_from}
+use Rattle.disk_split.specs.Rests.{IsSplitRest, minor_from, weight_from}
 use Rattle.disk_split.proofs.costs.given_cost.Given as goal
 
 abbrev pub invariant-loop-disk : goal.invariant-loop-disk

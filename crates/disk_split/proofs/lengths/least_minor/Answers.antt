@@ -3,8 +3,8 @@ use Rattle.std.specs.List.{All}
 use Rattle.std.proofs.lemmas.List.{take_all}
 use Rattle.std.proofs.lemmas.List.Elements.{Contains-get_or}
 use Rattle.std.proofs.lemmas.List.Sums.{sum_by_more}
-use Rattle.disk_split.specs.Private.Numbers.{IsLeastMinor}
-use Rattle.disk_split.specs.Private.Rests.{chunk_slots}
+use Rattle.disk_split.specs.Numbers.{IsLeastMinor}
+use Rattle.disk_split.specs.Rests.{chunk_slots}
 use Rattle.disk_split.proofs.LeastMinors.{all_fits, least_is, most_more, own_more}
 use Rattle.disk_split.proofs.lengths.least_minor.Goals as goal
 

@@ -1,7 +1,7 @@
 use Rattle.std.proofs.Common.{◌/◌, map, ap, ◌∙◌, arith}
 use Rattle.std.proofs.lemmas.List.{take_all}
 use Rattle.air_model.specs.Disks.{DiskSpec}
-use Rattle.disk_split.specs.Private.Numbers.{chunks_in}
+use Rattle.disk_split.specs.Numbers.{chunks_in}
 use Rattle.disk_split.proofs.numbers.chunks.Goals as goal
 
 pub returns : goal.returns

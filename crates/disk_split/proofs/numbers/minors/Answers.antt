@@ -4,7 +4,7 @@ use Rattle.std.proofs.lemmas.List.{take_all}
 use Rattle.std.proofs.lemmas.Option.{MatchOption-at_some, slice_get-get_or}
 use Rattle.air_model.specs.Disks.{DiskSpec}
 use Rattle.air_model.proofs.CommonMultiples.{least_common_pos}
-use Rattle.disk_split.specs.Private.Numbers.{minors_in}
+use Rattle.disk_split.specs.Numbers.{minors_in}
 use Rattle.disk_split.proofs.MinorLemmas.{common_bound, common_more, common_of, minors_bound, product_fits}
 use Rattle.disk_split.proofs.numbers.minors.Goals as goal
 

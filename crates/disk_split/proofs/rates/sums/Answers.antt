@@ -1,6 +1,6 @@
 use Rattle.std.proofs.Common.{◌≡◌, map, sum, subst, ap, ◌∙◌, arith}
 use Rattle.std.specs.Result.{IfOk}
-use Rattle.disk_split.specs.Private.Numbers.{hot_rates, sums_of}
+use Rattle.disk_split.specs.Numbers.{hot_rates, sums_of}
 use Rattle.disk_split.proofs.DeckNumbers.{hot_small}
 use Rattle.disk_split.proofs.HotLemmas.{rate_of, sorted_hot}
 use Rattle.disk_split.proofs.rates.sums.Goals as goal

@@ -3,7 +3,7 @@ use Rattle.std.specs.Prelude.{slice_index_or}
 use Rattle.std.proofs.lemmas.List.{get_or_read}
 use Rattle.disk_split.specs.declared.search.BestSizes.{BestSizes}
 use Rattle.disk_split.specs.Private.Bests.{IsFound}
-use Rattle.disk_split.specs.Private.Rests.{IsFirst}
+use Rattle.disk_split.specs.Rests.{IsFirst}
 use Rattle.disk_split.specs.Private.Tables.{IsCell, IsTableRow, IsTable}
 use Rattle.disk_split.proofs.BestSteps.{found_more, found_none}
 use Rattle.disk_split.proofs.RestLemmas.{slots_many}

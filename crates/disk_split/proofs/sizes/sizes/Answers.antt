@@ -2,7 +2,7 @@ use Rattle.std.proofs.Common.{rules, ◌≡◌, ◌<◌, ◌+◌, ◌-◌, ◌++
 use Rattle.std.specs.Prelude.{slice_index_or}
 use Rattle.std.specs.Result.{is_ok}
 use Rattle.std.proofs.lemmas.List.{drop-drop, drop_all, get_or_read, length-drop, take_rest}
-use Rattle.disk_split.specs.Private.Rests.{IsFirst}
+use Rattle.disk_split.specs.Rests.{IsFirst}
 use Rattle.disk_split.specs.Private.RestsToPlace.{IsFirstSize, IsLeastRest}
 use Rattle.disk_split.specs.Private.Tables.{HasCells, IsTable}
 use Rattle.disk_split.proofs.RestSteps.{fewer_slots, none_rest, sizes_more, step_rest}

@@ -1,5 +1,5 @@
 use Rattle.std.proofs.Common.{◌≤◌, ◌++◌, List, ℕ, drop}
-use Rattle.disk_split.specs.Private.Rests.{IsFirst}
+use Rattle.disk_split.specs.Rests.{IsFirst}
 use Rattle.disk_split.specs.Private.RestsToPlace.{IsLeastRest}
 use Rattle.disk_split.proofs.sizes.sizes.Given as goal
 

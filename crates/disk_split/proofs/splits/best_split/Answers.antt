@@ -3,8 +3,8 @@ use Rattle.std.proofs.Math.Nat.{mul-le-mul_left}
 use Rattle.air_base.specs.declared.limits.TheConstants.{MOST_SLOTS}
 use Rattle.disk_split.specs.Splits.{sizes_in}
 use Rattle.disk_split.specs.Private.Bests.{IsBestBelow, IsFound, cost_from}
-use Rattle.disk_split.specs.Private.Numbers.{IsLeastMinor, chunks_in, minors_in}
-use Rattle.disk_split.specs.Private.Rests.{AreChunks, AreSums, IsSplitRest, minor_from, weight_from}
+use Rattle.disk_split.specs.Numbers.{IsLeastMinor, chunks_in, minors_in}
+use Rattle.disk_split.specs.Rests.{AreChunks, AreSums, IsSplitRest, minor_from, weight_from}
 use Rattle.disk_split.proofs.CostLemmas.{own_split}
 use Rattle.disk_split.proofs.DeckLemmas.{deck_sums, length-chunks_in, length-deck_sums, split_rest}
 use Rattle.disk_split.proofs.DeckNumbers.{are_deck_chunks, are_deck_sums, chunks_below, chunks_some, few_disks, few_items, some_disks}

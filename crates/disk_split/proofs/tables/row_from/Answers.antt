@@ -1,7 +1,7 @@
 use Rattle.std.proofs.Common.{rules, ◌≡◌, ◌<◌, ◌+◌, ◌*◌, ◌++◌, ℕ, None, [], drop, take, length, replicate, slice_index, sym, subst, ap, ◌∙◌, arith}
 use Rattle.std.specs.Prelude.{slice_index_or}
 use Rattle.std.proofs.lemmas.List.{get_or-replicate, get_or_read, length-replicate, take_at}
-use Rattle.disk_split.specs.Private.Rests.{chunk_slots, rates_from}
+use Rattle.disk_split.specs.Rests.{chunk_slots, rates_from}
 use Rattle.disk_split.specs.Private.Tables.{HasCellsUpTo, improved}
 use Rattle.disk_split.proofs.TableSteps.{HaveCellsBelow, row_begins, row_ends, row_more, row_room}
 use Rattle.disk_split.proofs.tables.row_from.Goals as goal

@@ -17,8 +17,8 @@ loop-row-init c = ([], sym c.new-records.ensures, (λ place below. absurd (omega
 
 pub loop-row-preserved : goal.loop-row-preserved
 loop-row-preserved c =
-    let inv = c.loop-row.invariant in let rows = inv.0 in let row = fields_of c.next.new.row in let left = c.next.new.self in
-    let read : c.loop-row.records ≡ row ∷ left = rw c.if-not-branch.false at c.in_ok-next.ensures in
+    let inv = c.loop-row.invariant in let rows = inv.0 in let row = fields_of c.next.new.fields in let left = c.next.new.self in
+    let read : c.loop-row.records ≡ row ∷ left = rw c.if-not-branch.false at c.in_ok-next.ensures.taken in
     let none : record_kind (draft_of (declarations_in rows)) (spelled_declaration row) ≡ None = ap (λ d. record_kind d (spelled_declaration row)) (sym inv.3) ∙ c.in-Ok.ensures.0 in (
       rows ++ row ∷ [],
       inv.1 ∙ ap (λ more. rows ++ more) read ∙ sym (append_assoc rows (row ∷ []) left),
@@ -35,21 +35,21 @@ finish-requires c =
 pub returns-then-not-branch-clause-deck : goal.returns-then-not-branch-clause-deck
 returns-then-not-branch-clause-deck c =
     let inv = c.loop-row.invariant in
-    let end : c.loop-row.records ≡ [] = rw c.if-not-branch.true at c.in_ok-next.ensures in
+    let end : c.loop-row.records ≡ [] = rw c.if-not-branch.true at c.in_ok-next.ensures.taken in
     ok_more c.finish.result _ (λ deck. Spells c.args.bytes.now deck)
     (ends_deck c.args.bytes.now inv.0 inv.2 (inv.1 ∙ ap (λ more. inv.0 ++ more) end) c.loop-row.draft inv.3 c.loop-row.row inv.4) c.finish.ensures.deck
 
 pub returns-then-not-branch-clause-fault : goal.returns-then-not-branch-clause-fault
 returns-then-not-branch-clause-fault c =
     let inv = c.loop-row.invariant in
-    let end : c.loop-row.records ≡ [] = rw c.if-not-branch.true at c.in_ok-next.ensures in
+    let end : c.loop-row.records ≡ [] = rw c.if-not-branch.true at c.in_ok-next.ensures.taken in
     err_more c.finish.result _ (λ e. IsErrorOf c.args.bytes.now e)
     (ends_fault c.args.bytes.now inv.0 inv.2 (inv.1 ∙ ap (λ more. inv.0 ++ more) end) c.loop-row.draft inv.3 c.loop-row.row inv.4) c.finish.ensures.fault
 
 pub returns-in-Err-Kind-clause-fault : goal.returns-in-Err-Kind-clause-fault
 returns-in-Err-Kind-clause-fault c =
-    let inv = c.loop-row.invariant in let rows = inv.0 in let row = fields_of c.next.new.row in let left = c.next.new.self in
-    let read : c.loop-row.records ≡ row ∷ left = rw c.if-not-branch.false at c.in_ok-next.ensures in
+    let inv = c.loop-row.invariant in let rows = inv.0 in let row = fields_of c.next.new.fields in let left = c.next.new.self in
+    let read : c.loop-row.records ≡ row ∷ left = rw c.if-not-branch.false at c.in_ok-next.ensures.taken in
     let told : record_kind c.loop-row.draft (spelled_declaration row) ≡ Some c.in-Err-Kind.kind = rw c.in-Err-Kind.field-0-is at c.in-Err-Kind.ensures in
     let P : ℕ → Type 0 = λ r. HasFault c.args.bytes.now r (deck_kind_number c.in-Err-Kind.kind) in
     let fault : P c.loop-row.row = subst P (sym inv.4)

@@ -4,7 +4,7 @@ ghost use Rattle.std.specs.Prelude.{◌≡◌, OnOk, drop};
 ghost use Rattle.csv.specs.Records.{fields_of};
 ghost use Rattle.item_catalog.specs.Private.Drafts.{AddsDeclaration, QueryRead, UpdateRead};
 ghost use Rattle.item_catalog.specs.Declarations.{query_by, script_by, update_by};
-ghost use Rattle.air_base.specs.Pieces.{one_of, three_of, two_of};
+ghost use Rattle.air_base.specs.Parts.{one_of, three_of, two_of};
 ghost use Rattle.item_catalog.specs.Private.ListKinds.{seen_query_kind, seen_update_kind};
 
 use crate::deck::draft::Draft;
@@ -70,12 +70,12 @@ impl Draft {
     fn read_update(
         &mut self,
         alloc: Global,
-        row: &ByteRecord,
+        fields: &ByteRecord,
     ) -> Result<(u64, Update), Refusal<FaultKind>>
         ensures same { OnOk result (self.new ≡ self.old) }
-        ensures read { UpdateRead result (update_by (three_of (drop 1 (fields_of row.now)))) self.old }
+        ensures read { UpdateRead result (update_by (three_of (drop 1 (fields_of fields.now)))) self.old }
     {
-        let Some((by, reads, writes)) = three(row) else {
+        let Some((by, reads, writes)) = three(fields) else {
             return Err(Refusal::Kind(FaultKind::Fields));
         };
         let Some(by) = read_u64(by) else {
@@ -96,10 +96,14 @@ impl Draft {
     }
 
     /// Adds the update of a record.
-    pub fn add_update(&mut self, alloc: Global, row: &ByteRecord) -> Result<(), Refusal<FaultKind>>
-        ensures { AddsDeclaration result (update_by (three_of (drop 1 (fields_of row.now)))) self.old self.new }
+    pub fn add_update(
+        &mut self,
+        alloc: Global,
+        fields: &ByteRecord,
+    ) -> Result<(), Refusal<FaultKind>>
+        ensures { AddsDeclaration result (update_by (three_of (drop 1 (fields_of fields.now)))) self.old self.new }
     {
-        let (by, update) = self.read_update(alloc, row)?;
+        let (by, update) = self.read_update(alloc, fields)?;
         self.updates[by as usize].push(update)?;
         self.update_count += 1;
         self.updaters = self.updaters.max(by as u32 + 1);
@@ -110,12 +114,12 @@ impl Draft {
     fn read_query(
         &mut self,
         alloc: Global,
-        row: &ByteRecord,
+        fields: &ByteRecord,
     ) -> Result<(u64, Query), Refusal<FaultKind>>
         ensures same { OnOk result (self.new ≡ self.old) }
-        ensures read { QueryRead result (query_by (two_of (drop 1 (fields_of row.now)))) self.old }
+        ensures read { QueryRead result (query_by (two_of (drop 1 (fields_of fields.now)))) self.old }
     {
-        let Some((reader, asked)) = two(row) else {
+        let Some((reader, asked)) = two(fields) else {
             return Err(Refusal::Kind(FaultKind::Fields));
         };
         let Some(reader) = read_u64(reader) else {
@@ -138,20 +142,24 @@ impl Draft {
     }
 
     /// Adds the query of a record.
-    pub fn add_query(&mut self, alloc: Global, row: &ByteRecord) -> Result<(), Refusal<FaultKind>>
-        ensures { AddsDeclaration result (query_by (two_of (drop 1 (fields_of row.now)))) self.old self.new }
+    pub fn add_query(
+        &mut self,
+        alloc: Global,
+        fields: &ByteRecord,
+    ) -> Result<(), Refusal<FaultKind>>
+        ensures { AddsDeclaration result (query_by (two_of (drop 1 (fields_of fields.now)))) self.old self.new }
     {
-        let (reader, query) = self.read_query(alloc, row)?;
+        let (reader, query) = self.read_query(alloc, fields)?;
         self.queries[reader as usize].push(query)?;
         self.query_count += 1;
         Ok(())
     }
 
     /// Adds the events of a record.
-    pub fn add_events(&mut self, row: &ByteRecord) -> Result<(), Refusal<FaultKind>>
-        ensures { AddsDeclaration result (script_by (one_of (drop 1 (fields_of row.now)))) self.old self.new }
+    pub fn add_events(&mut self, fields: &ByteRecord) -> Result<(), Refusal<FaultKind>>
+        ensures { AddsDeclaration result (script_by (one_of (drop 1 (fields_of fields.now)))) self.old self.new }
     {
-        let Some(events) = one(row) else {
+        let Some(events) = one(fields) else {
             return Err(Refusal::Kind(FaultKind::Fields));
         };
         match self.script.read(events)? {

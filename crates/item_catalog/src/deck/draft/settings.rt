@@ -3,7 +3,8 @@
 ghost use Rattle.std.specs.Prelude.{◌≡◌, ◌≤◌, drop};
 ghost use Rattle.std.specs.List.{list_any};
 ghost use Rattle.csv.specs.Records.{fields_of};
-ghost use Rattle.air_base.specs.Pieces.{two_of};
+ghost use Rattle.air_base.specs.Parts.{two_of};
+ghost use Rattle.air_base.specs.declared.limits.TheConstants.{NEWEST_VERSION};
 ghost use Rattle.air_model.specs.Buckets.{most_count};
 ghost use Rattle.item_catalog.specs.Declarations.{set_by};
 ghost use Rattle.item_catalog.specs.Private.Drafts.{AddsDeclaration};
@@ -16,14 +17,11 @@ use crate::records::fields::two;
 use crate::records::refusals::Refusal;
 use air_base::limits::{
     DEFAULT_CYCLES, DEFAULT_HEARS, MOST_CYCLES, MOST_DELTA, MOST_FULL_ITEMS, MOST_HEARS,
-    MOST_ITEMS, MOST_MONITORS, MOST_SHARE,
+    MOST_ITEMS, MOST_MONITORS, MOST_SHARE, NEWEST_VERSION,
 };
 use air_base::{Policy, read_u64};
 use air_model::deck::Settings;
 use csv::ByteRecord;
-
-/// The newest version of buckets.
-pub const NEWEST_VERSION: u64 = 2;
 
 /// The settings that are numbers.
 #[derive(Clone, Copy, Debug, PartialEq, Eq)]
@@ -152,10 +150,10 @@ pub fn is_set(setting: Setting, set: &[Setting]) -> bool
 
 impl Draft {
     /// Adds the setting of a record.
-    pub fn add_setting(&mut self, row: &ByteRecord) -> Result<(), Refusal<FaultKind>>
-        ensures { AddsDeclaration result (set_by (two_of (drop 1 (fields_of row.now)))) self.old self.new }
+    pub fn add_setting(&mut self, fields: &ByteRecord) -> Result<(), Refusal<FaultKind>>
+        ensures { AddsDeclaration result (set_by (two_of (drop 1 (fields_of fields.now)))) self.old self.new }
     {
-        let Some((name, value)) = two(row) else {
+        let Some((name, value)) = two(fields) else {
             return Err(Refusal::Kind(FaultKind::Fields));
         };
         let Some(setting) = read_setting(name, value) else {

@@ -4,7 +4,7 @@ use Rattle.air_base.specs.declared.verdicts.VerdictKind.TheVariants.{Accept}
 use Rattle.air_cli.specs.HeardTapes.{AreFileSessions, UnheardCause}
 use Rattle.session_pins.specs.Refusals.{IsUnread}
 use Rattle.session_pins.specs.SmallBuckets.{pair_tape}
-use Rattle.session_pins.specs.SmallReceivers.{counted, counts, read, told}
+use Rattle.session_pins.specs.SmallReceivers.{counted, counts, first_query_line, value_read}
 use Rattle.session_pins.proofs.SessionLemmas.{heard_lines, heard_verdicts}
 use Rattle.session_pins.proofs.TapeCauses.{told_bytes, unread_cause}
 use Rattle.session_pins.proofs.tape_pins.carried_rest_forgotten.Goals as goal
@@ -12,7 +12,7 @@ use Rattle.session_pins.proofs.tape_pins.carried_rest_forgotten.Goals as goal
 pub returns-clause-verdicts : goal.returns-clause-verdicts
 returns-clause-verdicts g c =
     let before = g.S.Shelf.state c.args.shelf.now in
-    IfOk-weaker c.piece_sessions.result (AreFileSessions c.args.name.now 72 before c.args.planned.now) (λ s. s.verdicts.items ≡ told 0 Accept (read 0 1 10 ∷ read 1 1 20 ∷ []) ∷ [])
+    IfOk-weaker c.piece_sessions.result (AreFileSessions c.args.name.now 72 before c.args.planned.now) (λ s. s.verdicts.items ≡ first_query_line 0 Accept (value_read 0 1 10 ∷ value_read 1 1 20 ∷ []) ∷ [])
     (λ s h. h.verdicts ∙ heard_verdicts c.args.planned.now h.bytes c.requires.deck (told_bytes (before.told.file c.args.name.now) h.bytes pair_tape c.requires.file h.told))
     c.piece_sessions.ensures.heard
 

@@ -1,5 +1,5 @@
 use Rattle.std.proofs.Common.{◌≡◌, sym, subst}
-use Rattle.air_ether.specs.EtherView.{ether_in}
+use Rattle.air_ether.specs.EtherFields.{ether_in}
 use Rattle.air_ether.specs.HeardSoFar.{Ether, limit_of}
 use Rattle.air_ether.proofs.EtherLemmas.{few_after_end}
 use Rattle.air_ether.proofs.ether.Ether.end.Goals as goal

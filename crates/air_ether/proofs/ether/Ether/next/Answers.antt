@@ -6,7 +6,7 @@ use Rattle.air_ether.specs.HeardPositions.{InWindow, left_at, position, times_he
 use Rattle.air_ether.specs.HeardSoFar.{Ether, IsEtherAfter, due_of, left_of, limit_of}
 use Rattle.air_ether.specs.KeptPushes.{Waits, push_of}
 use Rattle.air_ether.specs.PushWords.{due_in, times_in}
-use Rattle.air_ether.specs.EtherView.{ether_in}
+use Rattle.air_ether.specs.EtherFields.{ether_in}
 use Rattle.air_ether.specs.LentBuckets.{Gave}
 use Rattle.air_ether.proofs.CursorLemmas.{copies_few, room_read}
 use Rattle.air_ether.proofs.EtherLemmas.{all_given, gave, gives, gives_pushed, moved}

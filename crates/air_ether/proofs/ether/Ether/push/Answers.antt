@@ -9,7 +9,7 @@ use Rattle.air_model.specs.Draws.{generator}
 use Rattle.air_ether.specs.HeardSoFar.{Ether, IsEtherAfter, limit_of}
 use Rattle.air_ether.specs.KeptPushes.{Push, push_of}
 use Rattle.air_ether.specs.PushWords.{left_by}
-use Rattle.air_ether.specs.EtherView.{ether_in}
+use Rattle.air_ether.specs.EtherFields.{ether_in}
 use Rattle.air_ether.proofs.EtherLemmas.{few_after_push, followed, one_more, open_after, open_window, pushed_window}
 use Rattle.air_ether.proofs.WordLemmas.{due_drawn, left_from, times_drawn}
 use Rattle.air_ether.proofs.ether.Ether.push.Goals as goal

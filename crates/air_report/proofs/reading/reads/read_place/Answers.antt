@@ -2,7 +2,7 @@ use Rattle.std.proofs.Common.{◌≡◌, ◌∙◌, ◌∷◌, ◌<◌, [], ℕ,
 use Rattle.std.proofs.lemmas.Bool.Decides.{nat_tests}
 use Rattle.std.proofs.lemmas.List.{nil_from_length}
 use Rattle.air_report.specs.LineTexts.{spelled_place}
-use Rattle.air_report.specs.Private.ReadFronts.{leading_place}
+use Rattle.air_report.specs.Private.LeadingReads.{leading_place}
 use Rattle.air_report.proofs.ReadLemmas.{no_place, no_whole_place, whole_place}
 use Rattle.air_report.proofs.reading.reads.read_place.Goals as goal
 

@@ -3,7 +3,7 @@ use Rattle.std.proofs.lemmas.Bool.Decides.{nat_tests}
 use Rattle.std.proofs.lemmas.List.{nil_from_length}
 use Rattle.air_base.specs.NumberLists.{list_of}
 use Rattle.air_base.specs.ReadParts.{part_values}
-use Rattle.air_base.proofs.ListFronts.{after_short, prepend_none, list_bad, list_empty, list_last, list_more, list_spelled}
+use Rattle.air_base.proofs.LeadingListLemmas.{after_short, prepend_none, list_bad, list_empty, list_last, list_more, list_spelled}
 use Rattle.air_report.specs.LineTexts.{spelled_read}
 use Rattle.air_report.proofs.reading.reads.read_reads.Goals as goal
 

@@ -19,8 +19,8 @@ loop-row-init c = ([], sym c.new-records.ensures, (λ place below. absurd (omega
 
 pub loop-row-preserved : goal.loop-row-preserved
 loop-row-preserved c =
-    let inv = c.loop-row.invariant in let rows = inv.0 in let row = fields_of c.next.new.row in let left = c.next.new.self in let deck = c.args.deck.now in
-    let read : c.loop-row.records ≡ row ∷ left = rw c.if-not-branch.false at c.in_ok-next.ensures in
+    let inv = c.loop-row.invariant in let rows = inv.0 in let row = fields_of c.next.new.fields in let left = c.next.new.self in let deck = c.args.deck.now in
+    let read : c.loop-row.records ≡ row ∷ left = rw c.if-not-branch.false at c.in_ok-next.ensures.taken in
     let none : line_record_kind deck (sections_of (spelled_lines deck.settings.version rows)) (spelled_line deck.settings.version row) ≡ None = ap (λ d. line_record_kind deck d (spelled_line deck.settings.version row)) (sym inv.3) ∙ c.in-Ok.ensures.0 in (
       rows ++ row ∷ [],
       inv.1 ∙ ap (λ more. rows ++ more) read ∙ sym (append_assoc rows (row ∷ []) left),
@@ -32,14 +32,14 @@ loop-row-preserved c =
 pub returns-then-not-branch-clause-lines : goal.returns-then-not-branch-clause-lines
 returns-then-not-branch-clause-lines c =
     let inv = c.loop-row.invariant in
-    let end : c.loop-row.records ≡ [] = rw c.if-not-branch.true at c.in_ok-next.ensures in
+    let end : c.loop-row.records ≡ [] = rw c.if-not-branch.true at c.in_ok-next.ensures.taken in
     let P : ReportLines → Type 0 = λ lines. SpellsLines c.args.deck.now c.args.bytes.now lines in
     subst P (sym (c.into_lines.ensures ∙ inv.3)) (read_all c.args.deck.now c.args.bytes.now inv.0 inv.2 (inv.1 ∙ ap (λ more. inv.0 ++ more) end))
 
 pub returns-in-Err-Kind-clause-fault : goal.returns-in-Err-Kind-clause-fault
 returns-in-Err-Kind-clause-fault c =
-    let inv = c.loop-row.invariant in let rows = inv.0 in let row = fields_of c.next.new.row in let left = c.next.new.self in let deck = c.args.deck.now in
-    let read : c.loop-row.records ≡ row ∷ left = rw c.if-not-branch.false at c.in_ok-next.ensures in
+    let inv = c.loop-row.invariant in let rows = inv.0 in let row = fields_of c.next.new.fields in let left = c.next.new.self in let deck = c.args.deck.now in
+    let read : c.loop-row.records ≡ row ∷ left = rw c.if-not-branch.false at c.in_ok-next.ensures.taken in
     let told : line_record_kind deck c.loop-row.draft (spelled_line deck.settings.version row) ≡ Some c.in-Err-Kind.kind = rw c.in-Err-Kind.field-0-is at c.in-Err-Kind.ensures in
     let P : ℕ → Type 0 = λ r. HasReportFault deck c.args.bytes.now r (report_kind_number c.in-Err-Kind.kind) in
     let fault : P c.loop-row.row = subst P (sym inv.4)

@@ -1,7 +1,7 @@
 use Rattle.std.proofs.Common.{arith, ap, sym, ◌∙◌, ◌≡◌, ◌+◌, ◌∷◌, [], length, drop}
 use Rattle.std.proofs.lemmas.List.{drop_more}
 use Rattle.air_history.specs.Histories.{starts}
-use Rattle.cycle_snapshot.specs.Private.BoardRuns.{step_all}
+use Rattle.control_matrix.specs.BoardSteps.{step_all}
 use Rattle.cycle_snapshot.proofs.BatchLemmas.{starts_append, step_sized, step_cycle}
 use Rattle.cycle_snapshot.proofs.batches.Batch.apply_to.Goals as goal
 

@@ -1,6 +1,6 @@
 use Rattle.std.proofs.Common.{◌≡◌, ◌+◌, length, drop}
 use Rattle.air_history.specs.Histories.{starts}
-use Rattle.cycle_snapshot.specs.Private.BoardRuns.{step_all}
+use Rattle.control_matrix.specs.BoardSteps.{step_all}
 use Rattle.cycle_snapshot.proofs.batches.Batch.apply_to.Given as goal
 
 abbrev pub invariant-loop-event : goal.invariant-loop-event

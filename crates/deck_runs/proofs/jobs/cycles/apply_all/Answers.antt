@@ -3,7 +3,7 @@ use Rattle.std.proofs.lemmas.List.{drop_more, take_all}
 use Rattle.std.proofs.lemmas.List.Elements.{All-more}
 use Rattle.air_history.specs.Histories.{starts}
 use Rattle.air_history.specs.Tables.{BasesRead}
-use Rattle.cycle_snapshot.specs.Private.BoardRuns.{step_all}
+use Rattle.control_matrix.specs.BoardSteps.{step_all}
 use Rattle.cycle_snapshot.proofs.BatchLemmas.{starts_append, step_sized, step_cycle}
 use Rattle.deck_runs.proofs.jobs.cycles.apply_all.Goals as goal
 

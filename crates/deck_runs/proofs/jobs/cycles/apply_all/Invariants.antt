@@ -1,7 +1,7 @@
 use Rattle.std.proofs.Common.{◌≡◌, ◌+◌, length, drop, take, All}
 use Rattle.air_history.specs.Histories.{starts}
 use Rattle.air_history.specs.Tables.{BasesRead}
-use Rattle.cycle_snapshot.specs.Private.BoardRuns.{step_all}
+use Rattle.control_matrix.specs.BoardSteps.{step_all}
 use Rattle.deck_runs.proofs.jobs.cycles.apply_all.Given as goal
 
 abbrev pub invariant-loop-event : goal.invariant-loop-event

@@ -2,7 +2,7 @@ use Rattle.std.proofs.Common.{◌≡◌, ◌∙◌, All, length, sym, ap, subst,
 use Rattle.air_history.specs.Histories.{starts, ItemsFit}
 use Rattle.air_history.specs.Tables.{BasesRead}
 use Rattle.cycle_snapshot.specs.Batches.{IsBatch}
-use Rattle.cycle_snapshot.specs.Private.BoardRuns.{step_all}
+use Rattle.control_matrix.specs.BoardSteps.{step_all}
 use Rattle.cycle_snapshot.proofs.BatchLemmas.{batch_starts}
 use Rattle.deck_runs.specs.PublishedBatches.{IsUpTo}
 use Rattle.air_sender.specs.BoardBuckets.{EntriesBelow}

@@ -15,7 +15,7 @@ returns c =
     let new = new_updaters station deck updaters c.in_ok-station.passes.items c.in_ok-updaters.ensures.passes (first.count ∙ ap (λ d. length d.updates) told) (λ by p at. first.each by p at ∙ ap (λ d. new_pass station d by) told) in
     record {
       planned = refl;
-      opened = record {
+      unplayed = record {
         conductor = can_conduct deck _ _ station c.in_ok-station.pass c.station.view_is c.in_ok-conductor.ensures.pass (first.conductor ∙ ap (λ d. new_pass station d (length d.updates)) told)
             c.in_ok-conductor.ensures.board c.in_ok-conductor.ensures.buffer;
         updaters = subst (λ t. AreNewUpdaters t deck updaters) (sym c.station.view_is) new;

@@ -1,6 +1,6 @@
 use Rattle.std.proofs.Common.{rules, ◌≡◌, ◌∙◌, length, replicate, sym, ap, arith}
 use Rattle.held_reads.specs.declared.cycles.TheConstants.{NOT_HELD}
-use Rattle.held_reads.specs.HeldView.{held_reads}
+use Rattle.held_reads.specs.HeldFields.{held_reads}
 use Rattle.held_reads.proofs.ArrayLemmas.{cycles_len, no_cycles}
 use Rattle.held_reads.proofs.held.HeldEntries.clear.Goals as goal
 

@@ -1,11 +1,11 @@
 use Rattle.std.proofs.Common.{rules, ◌≡◌, ◌≢◌, ◌<◌, ◌+◌, ◌++◌, ◌∷◌, [], ◌∙◌, ℕ, List, length, map, take, set, All, sym, ap, subst, arith}
 use Rattle.std.proofs.lemmas.List.{length-map, length-set, length-take-le}
 use Rattle.std.proofs.lemmas.List.Elements.{All-set}
-use Rattle.air_history.specs.Clashes.{Heard}
+use Rattle.air_history.specs.Clashes.{HeardRead}
 use Rattle.held_reads.specs.declared.reads.HeldRead.{HeldRead}
 use Rattle.held_reads.specs.HeardReads.{heard_of_held}
 use Rattle.air_history.specs.HeldReads.{HeldReads}
-use Rattle.held_reads.specs.HeldView.{held_reads}
+use Rattle.held_reads.specs.HeldFields.{held_reads}
 use Rattle.held_reads.specs.HeldCycles.{cycles_of, held_cycle}
 use Rattle.held_reads.proofs.ArrayLemmas.{cycles_len, cycles_put, items_put, once_more, places_put}
 use Rattle.held_reads.proofs.held.HeldEntries.hold.Goals as goal
@@ -20,7 +20,7 @@ pub invariant_of-self : goal.invariant_of-self
 invariant_of-self c =
     let inside = c.self.inside in
     let R = (held_reads inside).reads in
-    let x : Heard = record { item = c.args.item; cycle = c.args.cycle; entries = c.args.entries.now } in
+    let x : HeardRead = record { item = c.args.item; cycle = c.args.cycle; entries = c.args.entries.now } in
     let p : HeldRead = record { item = c.args.item; cycle = c.args.cycle; entries = c.copy_from_slice.new.self } in
     let n : inside.n ≡ c.args.self.now.n = ap (λ (h : HeldReads). h.n) c.self.view_is in
     let within : c.args.item < inside.n = omega (arith, c.requires.new.within) in
@@ -29,7 +29,7 @@ invariant_of-self c =
     let free_place : length R < 16 = subst (λ (h : HeldReads). length h.reads < 16) (sym c.self.view_is) c.requires.room in
     let place : inside.len < length inside.places.items = omega (arith, c.self.invariant.room.places) in
     let copied : c.copy_from_slice.new.self.items ≡ c.args.entries.now = search rules in
-    let same : heard_of_held p ≡ x = ap (λ (es : List ℕ). let y : Heard = record { item = c.args.item; cycle = c.args.cycle; entries = es } in y) copied in
+    let same : heard_of_held p ≡ x = ap (λ (es : List ℕ). let y : HeardRead = record { item = c.args.item; cycle = c.args.cycle; entries = es } in y) copied in
     let more : map heard_of_held (take (inside.len + 1) (set inside.places.items inside.len p)) ≡ R ++ x ∷ [] =
     places_put inside.places.items inside.len p place ∙ ap (λ y. R ++ y ∷ []) same in
     let wide : length c.copy_from_slice.new.self.items ≡ inside.n = ap length copied ∙ c.requires.new.sized ∙ sym n in

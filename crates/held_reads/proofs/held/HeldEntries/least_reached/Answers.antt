@@ -4,7 +4,7 @@ use Rattle.air_history.specs.Clashes.{heard_clash}
 use Rattle.air_history.specs.HeldReads.{HeldReads}
 use Rattle.held_reads.specs.HeardReads.{heard_of_held}
 use Rattle.held_reads.specs.Searches.{is_reached}
-use Rattle.held_reads.specs.HeldView.{held_reads}
+use Rattle.held_reads.specs.HeldFields.{held_reads}
 use Rattle.held_reads.specs.Private.FirstClash.{IsFirstClash}
 use Rattle.held_reads.proofs.ArrayLemmas.{cycles_len}
 use Rattle.held_reads.proofs.ReachedLemmas.{reached_is}

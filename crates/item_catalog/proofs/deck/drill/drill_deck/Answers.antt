@@ -5,7 +5,7 @@ use Rattle.air_model.specs.Decks.{IsDeck, Item}
 use Rattle.air_model.specs.Draws.{Draw, draw_each}
 use Rattle.air_model.specs.Drills.{draw_item, draw_query, draw_update, drill_deck, drill_items}
 use Rattle.item_catalog.specs.DeckLimits.{WithinLimits}
-use Rattle.item_catalog.specs.DeckView.{deck_seen}
+use Rattle.item_catalog.specs.DeckFields.{deck_seen}
 use Rattle.item_catalog.specs.Decks.{plain_item}
 use Rattle.item_catalog.specs.Faults.{count_starts}
 use Rattle.item_catalog.specs.declared.deck.Deck.TheInside.{Inside}

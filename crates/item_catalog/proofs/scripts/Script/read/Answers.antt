@@ -2,7 +2,7 @@ use Rattle.std.proofs.Common.{◌≡◌, ◌∙◌, ◌++◌, ◌∷◌, [], Som
 use Rattle.std.proofs.lemmas.List.{append-nil, nil_from_length}
 use Rattle.std.proofs.lemmas.Bool.Decides.{nat_tests}
 use Rattle.item_catalog.specs.Fields.{spelled_event}
-use Rattle.air_base.proofs.ListFronts.{after_short, list_bad, list_empty, list_last, list_more}
+use Rattle.air_base.proofs.LeadingListLemmas.{after_short, list_bad, list_empty, list_last, list_more}
 use Rattle.item_catalog.proofs.ScriptLemmas.{passes_none, step_passes, step_taken}
 use Rattle.item_catalog.proofs.scripts.Script.read.Goals as goal
 

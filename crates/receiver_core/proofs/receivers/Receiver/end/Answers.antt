@@ -5,7 +5,7 @@ use Rattle.air_model.proofs.MomentLemmas.{none_from}
 use Rattle.pix_cache.specs.Caches.{Cache}
 use Rattle.receiver_core.specs.LinesGiven.{lines_of}
 use Rattle.receiver_core.specs.Receivers.{Receiver}
-use Rattle.receiver_core.specs.ReceiverView.{receiver_in}
+use Rattle.receiver_core.specs.ReceiverFields.{receiver_in}
 use Rattle.receiver_core.proofs.KeepsLemmas.{emptied}
 use Rattle.receiver_core.proofs.StateLemmas.{still_left}
 use Rattle.receiver_core.proofs.StepLemmas.{bare_settled, ended, ended_copies, ended_left, ended_past, ended_waits, given_bare, last_ended, past, without_copies}

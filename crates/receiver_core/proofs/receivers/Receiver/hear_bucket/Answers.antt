@@ -4,7 +4,7 @@ use Rattle.air_model.specs.Sessions.{count_dozed, count_foreign, count_late, hea
 use Rattle.receiver_core.specs.FeedAnswers.{fed_of}
 use Rattle.receiver_core.specs.LastReads.{in_state}
 use Rattle.receiver_core.specs.Receivers.{Receiver}
-use Rattle.receiver_core.specs.ReceiverView.{receiver_in}
+use Rattle.receiver_core.specs.ReceiverFields.{receiver_in}
 use Rattle.receiver_core.proofs.HearLemmas.{dozed_heard, fed_dozed, fed_foreign, fed_late, fed_opened, fits_counted, foreign_heard, late_heard, opened_heard, wanted_read}
 use Rattle.receiver_core.proofs.OpenLemmas.{late_told}
 use Rattle.receiver_core.proofs.receivers.Receiver.hear_bucket.Goals as goal

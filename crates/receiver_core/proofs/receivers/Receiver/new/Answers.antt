@@ -3,8 +3,8 @@ use Rattle.std.proofs.lemmas.List.Elements.{All-nil}
 use Rattle.air_model.specs.Aired.{Air}
 use Rattle.air_model.specs.Decks.{Deck}
 use Rattle.pix_cache.specs.Caches.{Cache}
-use Rattle.receiver_core.specs.ReaderView.{AreWithin}
-use Rattle.receiver_core.specs.ReceiverView.{IsWholeRead}
+use Rattle.receiver_core.specs.ReaderFields.{AreWithin}
+use Rattle.receiver_core.specs.ReceiverFields.{IsWholeRead}
 use Rattle.receiver_core.proofs.receivers.Receiver.new.Goals as goal
 
 pub new-requires-4-clause-items : goal.new-requires-4-clause-items

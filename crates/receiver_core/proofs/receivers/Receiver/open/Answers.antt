@@ -9,7 +9,7 @@ use Rattle.air_model.specs.Sessions.{comes_aged, open_bucket, wanted}
 use Rattle.receiver_core.specs.Private.Attempts.{columns_of, read, read_from_bucket}
 use Rattle.receiver_core.specs.LastReads.{in_state}
 use Rattle.receiver_core.specs.Receivers.{Receiver}
-use Rattle.receiver_core.specs.ReceiverView.{IsWholeRead, receiver_in}
+use Rattle.receiver_core.specs.ReceiverFields.{IsWholeRead, receiver_in}
 use Rattle.receiver_core.proofs.OpenLemmas.{bucket_read, column_sized, far_at, new_read, offered_to, opened_aged, opened_clash, opened_clear, read_parts, room_left}
 use Rattle.receiver_core.proofs.KeepsLemmas.{clashes_within, few_opened, few_same, item_within, more_held, offered, same_held}
 use Rattle.receiver_core.proofs.StateLemmas.{left}

@@ -2,7 +2,7 @@ use Rattle.std.proofs.Common.{false, true, not, IsTrue, ◌∙◌, ap, refl, sub
 use Rattle.std.specs.Option.{is_some}
 use Rattle.air_model.specs.Sessions.{copy_of, wanted}
 use Rattle.receiver_core.specs.Receivers.{IsSettled, Receiver}
-use Rattle.receiver_core.specs.ReceiverView.{receiver_in}
+use Rattle.receiver_core.specs.ReceiverFields.{receiver_in}
 use Rattle.receiver_core.proofs.StateLemmas.{settled_is}
 use Rattle.receiver_core.proofs.receivers.Receiver.settled.Goals as goal
 

@@ -6,7 +6,7 @@ use Rattle.receiver_core.specs.LastReads.{in_state, last_reads}
 use Rattle.receiver_core.specs.LinesGiven.{StepTells, lines_given, lines_of}
 use Rattle.receiver_core.specs.Receivers.{Receiver, steps_left}
 use Rattle.receiver_core.specs.ReceiverSteps.{step}
-use Rattle.receiver_core.specs.ReceiverView.{receiver_in}
+use Rattle.receiver_core.specs.ReceiverFields.{receiver_in}
 use Rattle.receiver_core.proofs.StepLemmas.{came, fewer_left, last_given, last_stepped, no_more_left, none_waits_now, one_waits_now, past, same_heard, settled_now, stepped_given, stepped_waits}
 use Rattle.receiver_core.proofs.HeldCalls.{steps}
 use Rattle.receiver_core.proofs.receivers.Receiver.step.Goals as goal

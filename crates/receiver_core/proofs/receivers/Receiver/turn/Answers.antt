@@ -4,7 +4,7 @@ use Rattle.air_model.specs.Judges.{by_entries}
 use Rattle.air_model.specs.Sessions.{copy_of, turn, wanted}
 use Rattle.receiver_core.specs.LastReads.{in_state}
 use Rattle.receiver_core.specs.Receivers.{Receiver}
-use Rattle.receiver_core.specs.ReceiverView.{receiver_in}
+use Rattle.receiver_core.specs.ReceiverFields.{receiver_in}
 use Rattle.receiver_core.specs.Private.Attempts.{read}
 use Rattle.receiver_core.specs.Private.Turns.{uses_copy}
 use Rattle.receiver_core.proofs.KeepsLemmas.{dropped_one, few_same, few_taken, item_within, more_held, same_held}

@@ -3,7 +3,7 @@ use Rattle.std.specs.List.{slice_get}
 use Rattle.air_model.specs.Sessions.{query_of, wanted}
 use Rattle.receiver_core.specs.HeldTruths.{first_unheld}
 use Rattle.receiver_core.specs.Receivers.{Receiver}
-use Rattle.receiver_core.specs.ReceiverView.{receiver_in}
+use Rattle.receiver_core.specs.ReceiverFields.{receiver_in}
 use Rattle.receiver_core.proofs.WantedLemmas.{distinct_at, wanted_first}
 use Rattle.receiver_core.proofs.receivers.Receiver.wanted.Goals as goal
 

@@ -4,7 +4,7 @@ use Rattle.air_base.specs.declared.verdicts.Form.{Form}
 use Rattle.air_model.specs.Buckets.{entry_len}
 use Rattle.air_model.specs.Decks.{values_in}
 use Rattle.air_model.specs.Disks.{all_items}
-use Rattle.air_sender.specs.BoardBuckets.{EntriesBelow, cycle_bytes}
+use Rattle.air_sender.specs.BoardBuckets.{EntriesBelow, board_bytes}
 use Rattle.air_model.specs.Programs.{program}
 use Rattle.air_devices.specs.Masts.{SentBuckets}
 use Rattle.air_sender.specs.TapeMasts.{told_by_tape}
@@ -51,7 +51,7 @@ returns-in-Ok-clause-aired c = λ before so_far.
     let s = c.args.self.now in
     let old = (told_by_tape c.args.piece.now).buckets in
     let sent = ap (λ (t : SentBuckets). t.buckets) (told_alike c.in-Ok.ensures.aired) in
-    let cycle = cycle_bytes c.own_form.result 0 (program c.program.result.now) s.board in
+    let cycle = board_bytes c.own_form.result 0 (program c.program.result.now) s.board in
     let grew = ap (λ l. before ++ l) sent ∙ sym (append_assoc before old cycle) in
     sym (start_aired c.args.planned.now s.events.items c.args.event.now s.board c.requires.stepped c.own_cycle_law.ensures c.shows_planned.ensures.made (sym c.if-not-is_start.ensures)
     c.own_form.result c.program.result.now (before ++ old) (before ++ (told_by_tape c.air_cycle.new.mast).buckets) c.own_form.ensures.form c.program.ensures.told (sym so_far) grew)

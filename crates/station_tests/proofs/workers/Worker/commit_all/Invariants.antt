@@ -1,5 +1,5 @@
-use Rattle.station_tests.specs.Workers.{IsReady}
+use Rattle.station_tests.specs.Workers.{FitsStation}
 use Rattle.station_tests.proofs.workers.Worker.commit_all.Given as goal
 
 abbrev pub invariant-loop : goal.invariant-loop
-invariant-loop g l = IsReady l.station l.self.pass l.self.update
+invariant-loop g l = FitsStation l.station l.self.pass l.self.update

@@ -1,7 +1,7 @@
 use Rattle.std.proofs.Common.{ap, ◌∙◌, sym, subst, Some, arith}
 use Rattle.turnstile.specs.PassEntries.{Continues}
 use Rattle.turnstile.proofs.SeatLemmas.{rests_outside}
-use Rattle.turnstile.proofs.DrawLemmas.{draws}
+use Rattle.turnstile.proofs.TicketLemmas.{takes}
 use Rattle.turnstile.proofs.ServeLemmas.{serves}
 use Rattle.turnstile.proofs.EnterLemmas.{enters, took, slot_held}
 use Rattle.turnstile.proofs.turnstiles.Turnstile.enter.Goals as goal
@@ -12,7 +12,7 @@ fetch_add-ticket-requires g c =
     let two = c.self.invariant.0 in
     let noted = ap (λ p. p.turn) c.pass.view_is ∙ c.requires.outside in
     let o = rests_outside _ s noted in
-    (ap (λ p. p.gate) c.pass.view_is ∙ (c.requires.own ∙ sym c.self.view_is), omega arith, draws _ _ _ _ _ o.0 s.live s.calm noted)
+    (ap (λ p. p.gate) c.pass.view_is ∙ (c.requires.own ∙ sym c.self.view_is), omega arith, takes _ _ _ _ _ o.0 s.live s.calm noted)
 
 pub load-served-requires : goal.load-served-requires
 load-served-requires g c =

@@ -11,7 +11,6 @@ use Rattle.air_model.specs.Decks.{count_made}
 use Rattle.update_commit.proofs.EventLemmas.{starts_commit, fresh_commit}
 use Rattle.update_commit.proofs.StepLemmas.{map_same, values_push, counts_commit, commit_fits, items_fit, reply_last}
 use Rattle.update_commit.proofs.cores.Core.commit.Goals as goal
-use Rattle.update_commit.proofs.cores.Core.commit.Goals.{After-push_reserved}
 
 pub run_and_answer-requires-clause-fits : goal.run_and_answer-requires-clause-fits
 run_and_answer-requires-clause-fits c =

@@ -11,7 +11,7 @@ use Rattle.item_catalog.specs.Declarations.{script_by}
 use Rattle.item_catalog.specs.Faults.{script_passes, some_below}
 use Rattle.item_catalog.specs.Fields.{spelled_event}
 use Rattle.item_catalog.specs.declared.faults.FaultKind.TheVariants as fault
-use Rattle.air_base.specs.Pieces.{one_of}
+use Rattle.air_base.specs.Parts.{one_of}
 use Rattle.item_catalog.proofs.DeclarationLemmas.{events_are, script_spelled}
 use Rattle.item_catalog.proofs.deck.draft.Draft.add_events.Goals as goal
 use Rattle.item_catalog.proofs.deck.draft.Draft.add_events.Goals.{After-overdraws}
@@ -19,7 +19,7 @@ use Rattle.item_catalog.proofs.deck.draft.Draft.add_events.Goals.{After-overdraw
 -- The events that were read, with which no limit is passed, and what the counts say of them.
 record Events (c : After-overdraws) : Type 0 where
   events : List (Option ℕ)
-  spelled : script_by (one_of (drop 1 (fields_of c.args.row.now))) ≡ Ok (e.Script events)
+  spelled : script_by (one_of (drop 1 (fields_of c.args.fields.now))) ≡ Ok (e.DeclaredScript events)
   within : script_passes c.args.self.now.script events ≡ false
   added : c.read.new.self ≡ c.args.self.now.script ++ events
   told : c.overdraws.result ≡ some_below MOST_UPDATERS (λ by. nat_lt (length (get_or c.args.self.now.updates by [])) (count_parts by (c.args.self.now.script ++ events)))
@@ -34,7 +34,7 @@ read_events c =
     let added : c.read.new.self ≡ c.args.self.now.script ++ r.0 = r.3 (sym r.2) ∙ ap (λ s. s ++ r.0) script in
     record {
       events = r.0;
-      spelled = script_spelled (one_of (drop 1 (fields_of c.args.row.now))) c.in-Some.events.now r.0 c.in-Some.ensures r.1;
+      spelled = script_spelled (one_of (drop 1 (fields_of c.args.fields.now))) c.in-Some.events.now r.0 c.in-Some.ensures r.1;
       within = within;
       added = added;
       told = c.overdraws.ensures ∙ ap (λ (u : List (List UpdateLists)). some_below MOST_UPDATERS (λ by. nat_lt (length (get_or u by [])) (count_parts by c.read.new.self))) (c.deref.ensures.value ∙ updates)
@@ -45,7 +45,7 @@ abbrev with_script : DraftValue → List (Option ℕ) → DraftValue
 with_script d script = record d { script = script }
 
 judged_by : (d : DraftValue) (events : List (Option ℕ)) (b : Bool) → script_passes d.script events ≡ false
-    → b ≡ some_below MOST_UPDATERS (λ by. nat_lt (length (get_or d.updates by [])) (count_parts by (d.script ++ events))) → record_kind d (Ok (e.Script events)) ≡ cond b (Some fault.Overdrawn) None
+    → b ≡ some_below MOST_UPDATERS (λ by. nat_lt (length (get_or d.updates by [])) (count_parts by (d.script ++ events))) → record_kind d (Ok (e.DeclaredScript events)) ≡ cond b (Some fault.Overdrawn) None
 judged_by d events b within over = rw (within, ← over) refl
 
 pub returns-then-overdraws : goal.returns-then-overdraws

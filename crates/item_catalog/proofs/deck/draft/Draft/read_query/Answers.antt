@@ -8,7 +8,7 @@ use Rattle.item_catalog.specs.Declarations as e
 use Rattle.item_catalog.specs.Declarations.{Declaration, query_by}
 use Rattle.item_catalog.specs.RecordKinds.{first_of}
 use Rattle.item_catalog.specs.Faults.{query_tests}
-use Rattle.air_base.specs.Pieces.{two_of}
+use Rattle.air_base.specs.Parts.{two_of}
 use Rattle.item_catalog.specs.KeptLists.{ItemsSeen, items_seen}
 use Rattle.item_catalog.specs.Private.ListKinds.{seen_query_kind}
 use Rattle.item_catalog.proofs.DeclarationLemmas.{query_spelled, read_is_some}
@@ -19,7 +19,7 @@ use Rattle.item_catalog.proofs.deck.draft.Draft.read_query.Goals.{After-query_ki
 -- The list that was read, and what the tests say of it.
 record Asked (c : After-query_kind) : Type 0 where
   asked : List ℕ
-  spelled : query_by (two_of (drop 1 (fields_of c.args.row.now))) ≡ Ok (e.Query c.in-Some-read_u64.reader asked)
+  spelled : query_by (two_of (drop 1 (fields_of c.args.fields.now))) ≡ Ok (e.DeclaredQuery c.in-Some-read_u64.reader asked)
   seen : c.read.new.self ≡ items_seen (length c.args.self.now.items) asked
   told : c.query_kind.result ≡ first_of (query_tests (length c.args.self.now.items) (length c.args.self.now.readers) c.args.self.now.query_count c.in-Some-read_u64.reader asked)
 
@@ -33,7 +33,7 @@ list c =
     let given : c.self.inside.query_count ≡ c.args.self.now.query_count = ap (λ (d : DraftValue). d.query_count) c.self.view_is in
     record {
       asked = r.0;
-      spelled = query_spelled (two_of (drop 1 (fields_of c.args.row.now))) c.in-Some.reader.now c.in-Some.asked.now reader r.0 c.in-Some.ensures (sym c.in-Some-read_u64.ensures) r.1;
+      spelled = query_spelled (two_of (drop 1 (fields_of c.args.fields.now))) c.in-Some.reader.now c.in-Some.asked.now reader r.0 c.in-Some.ensures (sym c.in-Some-read_u64.ensures) r.1;
       seen = seen;
       told = c.query_kind.ensures ∙ ap (λ (s : ItemsSeen). seen_query_kind s c.len.result reader c.self.inside.query_count) seen ∙ ap (λ k. seen_query_kind (items_seen n r.0) k reader c.self.inside.query_count) readers
           ∙ ap (λ g. seen_query_kind (items_seen n r.0) (length c.args.self.now.readers) reader g) given ∙ query_seen n r.0 (length c.args.self.now.readers) reader c.args.self.now.query_count;
@@ -45,7 +45,7 @@ returns-in-Some-query_kind-clause-read c =
     ap (record_kind c.args.self.now) l.spelled ∙ sym l.told ∙ c.in-Some-query_kind.is
 
 abbrev result_of : ℕ → List ℕ → Result Declaration FaultKind
-result_of reader asked = Ok (e.Query reader asked)
+result_of reader asked = Ok (e.DeclaredQuery reader asked)
 
 pub returns-clause-read : goal.returns-clause-read
 returns-clause-read c =

@@ -11,7 +11,7 @@ use Rattle.item_catalog.specs.Declarations as e
 use Rattle.item_catalog.specs.Declarations.{Declaration, update_by}
 use Rattle.item_catalog.specs.RecordKinds.{first_of}
 use Rattle.item_catalog.specs.Faults.{update_tests}
-use Rattle.air_base.specs.Pieces.{three_of}
+use Rattle.air_base.specs.Parts.{three_of}
 use Rattle.item_catalog.specs.Writes.{spelled_write}
 use Rattle.item_catalog.specs.KeptLists.{ItemsSeen, WritesSeen, items_seen, writes_seen}
 use Rattle.item_catalog.specs.Private.ListKinds.{seen_update_kind}
@@ -24,7 +24,7 @@ use Rattle.item_catalog.proofs.deck.draft.Draft.read_update.Goals.{After-update_
 record Lists (c : After-update_kind) : Type 0 where
   rs : List ℕ
   ws : List Write
-  spelled : update_by (three_of (drop 1 (fields_of c.args.row.now))) ≡ Ok (e.Update c.in-Some-read_u64.by rs ws)
+  spelled : update_by (three_of (drop 1 (fields_of c.args.fields.now))) ≡ Ok (e.DeclaredUpdate c.in-Some-read_u64.by rs ws)
   listed : list_of spelled_write c.in-Some.writes.now ≡ Some ws
   reads : c.read.new.self ≡ items_seen (length c.args.self.now.items) rs
   writes : c.read-2.new.self ≡ writes_seen (length c.args.self.now.items) (items_seen (length c.args.self.now.items) rs).items ws
@@ -42,7 +42,7 @@ lists c =
     record {
       rs = r.0;
       ws = w.0;
-      spelled = update_spelled (three_of (drop 1 (fields_of c.args.row.now))) c.in-Some.by.now c.in-Some.reads.now c.in-Some.writes.now c.in-Some-read_u64.by r.0 w.0 c.in-Some.ensures (sym c.in-Some-read_u64.ensures) r.1 w.1;
+      spelled = update_spelled (three_of (drop 1 (fields_of c.args.fields.now))) c.in-Some.by.now c.in-Some.reads.now c.in-Some.writes.now c.in-Some-read_u64.by r.0 w.0 c.in-Some.ensures (sym c.in-Some-read_u64.ensures) r.1 w.1;
       listed = w.1;
       reads = reads;
       writes = writes;
@@ -61,7 +61,7 @@ abbrev lists_of : List ℕ → List Write → UpdateLists
 lists_of reads writes = record { reads = reads; writes = writes }
 
 abbrev result_of : ℕ → UpdateLists → Result Declaration FaultKind
-result_of by u = Ok (e.Update by u.reads u.writes)
+result_of by u = Ok (e.DeclaredUpdate by u.reads u.writes)
 
 -- No kind applies where none was told, and the lists that were kept are those of the record.
 none_told : (c : After-update_kind) (l : Lists c) → c.update_kind.result ≡ None → first_of (update_tests (length c.args.self.now.items) c.args.self.now.update_count c.in-Some-read_u64.by l.rs l.ws) ≡ None

@@ -4,7 +4,7 @@ use Rattle.std.proofs.lemmas.Bool.Decides.{nat_tests}
 use Rattle.air_base.specs.Numbers.{number_of}
 use Rattle.air_base.specs.NumberLists.{list_of}
 use Rattle.item_catalog.specs.KeptLists.{items_seen, see_item}
-use Rattle.air_base.proofs.ListFronts.{after_short, list_bad, list_empty, list_last, list_more}
+use Rattle.air_base.proofs.LeadingListLemmas.{after_short, list_bad, list_empty, list_last, list_more}
 use Rattle.air_base.specs.ReadParts.{part_values, prepend}
 use Rattle.air_base.proofs.PlainNumbers.{from_place}
 use Rattle.item_catalog.proofs.SeenLemmas.{items_more, read_none, read_some}

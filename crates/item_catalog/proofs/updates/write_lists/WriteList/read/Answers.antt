@@ -5,7 +5,7 @@ use Rattle.item_catalog.specs.Writes.{spelled_write}
 use Rattle.air_base.specs.NumberLists.{list_of}
 use Rattle.item_catalog.specs.KeptLists.{see_write, writes_seen}
 use Rattle.item_catalog.specs.Private.WriteParts.{write_said}
-use Rattle.air_base.proofs.ListFronts.{after_short, list_bad, list_empty, list_last, list_more}
+use Rattle.air_base.proofs.LeadingListLemmas.{after_short, list_bad, list_empty, list_last, list_more}
 use Rattle.air_base.specs.ReadParts.{part_values, prepend}
 use Rattle.air_base.proofs.PlainNumbers.{from_place}
 use Rattle.item_catalog.proofs.SeenLemmas.{writes_more, read_none, read_some}

@@ -1,4 +1,4 @@
--- For private steps alone. Sizes for the disks from one on, which take the items from a place on.
+-- Sizes for the disks from one on, which take the items from a place on.
 -- `chunks` has the numbers of chunks of these disks, `sums` the sums of the rates of the first items, hottest first: none, one, and so on to all.
 use Rattle.std.specs.Prelude.{◌≡◌, ◌≤◌, ◌<◌, ℕ, ◌+◌, ◌-◌, ◌*◌, ◌/◌, ◌^◌, false, List, [], ◌∷◌, All, length, slice_index}
 use Rattle.air_base.specs.declared.limits.TheConstants.{ITEM_NUMBERS, MOST_SLOTS}

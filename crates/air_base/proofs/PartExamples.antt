@@ -1,9 +1,9 @@
 -- Digits, and lists of just so many elements, computed at their ends.
 use Rattle.std.specs.Prelude.{◌≡◌, ℕ, [], ◌∷◌, Some, None, true, false, codes, refl}
 use Rattle.air_base.specs.Numbers.{is_numeral, last_digits}
-use Rattle.air_base.specs.Pieces.{cut_at, one_of, three_of, two_of}
+use Rattle.air_base.specs.Parts.{one_of, parts_at, three_of, two_of}
 
-pub record Pieces : Type 0 where
+pub record Parts : Type 0 where
   zero_alone : is_numeral (codes "0") ≡ true
   zero_first : is_numeral (codes "01") ≡ false
   no_digit : is_numeral (codes "1:") ≡ false
@@ -18,12 +18,12 @@ pub record Pieces : Type 0 where
   not_two : two_of {A = ℕ} (7 ∷ []) ≡ None
   three : three_of {A = ℕ} (7 ∷ 8 ∷ 9 ∷ []) ≡ Some (7, 8, 9)
   not_three : three_of {A = ℕ} (7 ∷ 8 ∷ 9 ∷ 10 ∷ []) ≡ None
-  -- A byte at the front and one at the end leave empty pieces.
-  cut : cut_at 61 (codes "=a=bc=") ≡ [] ∷ codes "a" ∷ codes "bc" ∷ [] ∷ []
-  uncut : cut_at 61 (codes "abc") ≡ codes "abc" ∷ []
+  -- A byte at the beginning and one at the end leave empty parts.
+  several : parts_at 61 (codes "=a=bc=") ≡ [] ∷ codes "a" ∷ codes "bc" ∷ [] ∷ []
+  alone : parts_at 61 (codes "abc") ≡ codes "abc" ∷ []
 
-pieces : Pieces
-pieces = record {
+parts : Parts
+parts = record {
   zero_alone = refl;
   zero_first = refl;
   no_digit = refl;
@@ -37,6 +37,6 @@ pieces = record {
   not_two = refl;
   three = refl;
   not_three = refl;
-  cut = refl;
-  uncut = refl;
+  several = refl;
+  alone = refl;
 }

@@ -9,7 +9,7 @@ use Rattle.air_model.specs.Sessions.{Reader}
 use Rattle.pix_cache.specs.Caches.{Cache}
 use Rattle.receiver_core.specs.declared.receivers.Receiver.TheInside.{Inside}
 use Rattle.receiver_core.specs.LinesGiven.{lines_of}
-use Rattle.receiver_core.specs.ReaderView.{AreDistinct, AreWithin, HasFewQueries}
+use Rattle.receiver_core.specs.ReaderFields.{AreDistinct, AreWithin, HasFewQueries}
 use Rattle.receiver_core.specs.Receivers.{Receiver}
 
 -- The receiver of the fields.

@@ -1,4 +1,4 @@
--- Lists of just so many elements, and a text cut at a byte.
+-- Lists of just so many elements, and the parts of a text.
 use Rattle.std.specs.Prelude.{◌==◌, ℕ, List, [], ◌∷◌, Option, Some, None}
 use Rattle.std.specs.List.{slice_split}
 
@@ -17,6 +17,6 @@ abbrev pub three_of : {A : Type 0} → List A → Option (A × A × A)
 three_of (a ∷ b ∷ c ∷ []) = Some (a, b, c)
 three_of all = None
 
--- The pieces of a text between the bytes of this number.
-abbrev pub cut_at : ℕ → List ℕ → List (List ℕ)
-cut_at byte text = slice_split (λ b. b == byte) text
+-- The parts of a text between the bytes of this number.
+abbrev pub parts_at : ℕ → List ℕ → List (List ℕ)
+parts_at byte text = slice_split (λ b. b == byte) text

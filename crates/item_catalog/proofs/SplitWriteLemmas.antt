@@ -1,4 +1,4 @@
--- The write at the front of a list, by the numbers and signs that stand there.
+-- The leading write of a list, by the numbers and signs that stand there.
 --
 -- `value_number`, `value_plus`, `value_minus`, `value_other` say what follows `=` by its first number and what stands behind
 -- that; `write_equals`, `write_other` and `write_digits` say the same of a whole write.
@@ -12,10 +12,10 @@ use Rattle.std.proofs.lemmas.Bool.{and_parts}
 use Rattle.std.proofs.lemmas.Bool.Decides.{nat_tests}
 use Rattle.air_base.specs.Numbers.{number_of}
 use Rattle.air_base.specs.LeadingParts.{leading_part, behind}
-use Rattle.air_base.specs.Pieces.{cut_at, two_of}
-use Rattle.air_base.proofs.Cuts.{Two, cut_first, cut_none, cut_then, is_not, two_pieces}
-use Rattle.air_base.proofs.LeadingPartLemmas.{front_all, front_behind}
-use Rattle.air_base.proofs.NumberFronts.{all_such, digits_then, no_number, spelled_digits}
+use Rattle.air_base.specs.Parts.{parts_at, two_of}
+use Rattle.air_base.proofs.PartsAt.{Two, is_not, one_part, part_first, part_then, two_parts}
+use Rattle.air_base.proofs.LeadingPartLemmas.{leading_all, leading_behind}
+use Rattle.air_base.proofs.LeadingNumberLemmas.{all_such, digits_then, no_number, spelled_digits}
 use Rattle.item_catalog.specs.Writes.{constant, spelled_value_write, spelled_write, write_by, write_from, write_on_base}
 
 -- Texts that begin with digits and then another byte are alike in their digits, in that byte, and behind it.
@@ -70,7 +70,7 @@ Never s minus item v = (p q : List ℕ) → v ≡ p ++ s ∷ q → write_on_base
 
 value_none : (item : Option ℕ) (v : List ℕ) → Never 43 false item v → Never 45 true item v → number_of v ≡ None → spelled_value_write item v ≡ None
 unfolding spelled_value_write
-value_none item v plus minus whole = by (two_of (cut_at 43 v)) (two_of (cut_at 45 v)) (two_pieces 43 v) (two_pieces 45 v)
+value_none item v plus minus whole = by (two_of (parts_at 43 v)) (two_of (parts_at 45 v)) (two_parts 43 v) (two_parts 45 v)
   where
     by : (a b : Option (List ℕ × List ℕ)) → Two 43 v a → Two 45 v b → write_by item a b v ≡ None
     by (Some f) b e m = plus f.0 f.1 e
@@ -108,7 +108,7 @@ value_plus item a c digits = by (number_of c) refl
   where
     by : (n : Option ℕ) → number_of c ≡ n → spelled_value_write item (a ++ 43 ∷ c) ≡ write_on_base false item (number_of a) (number_of c)
     by None h = value_bad item a 43 c digits refl h ∙ rw h (sym (on_base_none false item (number_of a)))
-    by (Some n) h = rw (cut_then 43 a c (digits_are_not 43 refl a digits), cut_none 43 c (digits_are_not 43 refl c (spelled_digits c n h))) refl
+    by (Some n) h = rw (part_then 43 a c (digits_are_not 43 refl a digits), one_part 43 c (digits_are_not 43 refl c (spelled_digits c n h))) refl
 
 pub value_minus : (item : Option ℕ) (a c : List ℕ) → list_all is_ascii_digit a ≡ true → spelled_value_write item (a ++ 45 ∷ c) ≡ write_on_base true item (number_of a) (number_of c)
 unfolding spelled_value_write
@@ -121,11 +121,11 @@ value_minus item a c digits = by (number_of c) refl
     by None h = value_bad item a 45 c digits refl h ∙ rw h (sym (on_base_none true item (number_of a)))
     by (Some n) h =
         let more = spelled_digits c n h in
-        rw (cut_none 43 (a ++ 45 ∷ c) (no_plus more), cut_then 45 a c (digits_are_not 45 refl a digits), cut_none 45 c (digits_are_not 45 refl c more)) refl
+        rw (one_part 43 (a ++ 45 ∷ c) (no_plus more), part_then 45 a c (digits_are_not 45 refl a digits), one_part 45 c (digits_are_not 45 refl c more)) refl
 
 pub value_number : (item : Option ℕ) (a : List ℕ) → list_all is_ascii_digit a ≡ true → spelled_value_write item a ≡ constant item (number_of a)
 unfolding spelled_value_write
-value_number item a digits = rw (cut_none 43 a (digits_are_not 43 refl a digits), cut_none 45 a (digits_are_not 45 refl a digits)) refl
+value_number item a digits = rw (one_part 43 a (digits_are_not 43 refl a digits), one_part 45 a (digits_are_not 45 refl a digits)) refl
 
 -- A value with another `=` has no write.
 value_again : (item : Option ℕ) (v : List ℕ) → list_all (is_not 61) v ≡ false → spelled_value_write item v ≡ None
@@ -149,29 +149,29 @@ value_again item v again = value_none item v (never 43 false refl refl) (never 4
 -- A write by its digits and what stands behind them.
 pub write_equals : (a v : List ℕ) → list_all is_ascii_digit a ≡ true → spelled_write (a ++ 61 ∷ v) ≡ spelled_value_write (number_of a) v
 unfolding spelled_write
-write_equals a v digits = rw (cut_then 61 a v (digits_are_not 61 refl a digits)) (by (list_all (is_not 61) v) refl)
+write_equals a v digits = rw (part_then 61 a v (digits_are_not 61 refl a digits)) (by (list_all (is_not 61) v) refl)
   where
-    more : (y : ℕ) (ys : List ℕ) → behind (is_not 61) v ≡ y ∷ ys → write_from (two_of (a ∷ cut_at 61 v)) ≡ None
-    more y ys e = rw (cut_first 61 v, e, cut_first 61 ys) refl
+    more : (y : ℕ) (ys : List ℕ) → behind (is_not 61) v ≡ y ∷ ys → write_from (two_of (a ∷ parts_at 61 v)) ≡ None
+    more y ys e = rw (part_first 61 v, e, part_first 61 ys) refl
 
-    by : (b : Bool) → list_all (is_not 61) v ≡ b → write_from (two_of (a ∷ cut_at 61 v)) ≡ spelled_value_write (number_of a) v
-    by true all = rw (cut_none 61 v all) refl
+    by : (b : Bool) → list_all (is_not 61) v ≡ b → write_from (two_of (a ∷ parts_at 61 v)) ≡ spelled_value_write (number_of a) v
+    by true all = rw (one_part 61 v all) refl
     by false again = at (behind (is_not 61) v) refl ∙ sym (value_again (number_of a) v again)
       where
-        at : (b : List ℕ) → behind (is_not 61) v ≡ b → write_from (two_of (a ∷ cut_at 61 v)) ≡ None
+        at : (b : List ℕ) → behind (is_not 61) v ≡ b → write_from (two_of (a ∷ parts_at 61 v)) ≡ None
         at (y ∷ ys) e = more y ys e
         at [] e =
             let end : leading_part (is_not 61) v ++ behind (is_not 61) v ≡ leading_part (is_not 61) v = rw e (append-nil (leading_part (is_not 61) v)) in
-            let all : list_all (is_not 61) v ≡ true = ap (list_all (is_not 61)) (front_behind (is_not 61) v ∙ end) ∙ front_all (is_not 61) v in
+            let all : list_all (is_not 61) v ≡ true = ap (list_all (is_not 61)) (leading_behind (is_not 61) v ∙ end) ∙ leading_all (is_not 61) v in
             cc (all, again)
 
 pub write_digits : (a : List ℕ) → list_all is_ascii_digit a ≡ true → spelled_write a ≡ None
 unfolding spelled_write
-write_digits a digits = rw (cut_none 61 a (digits_are_not 61 refl a digits)) refl
+write_digits a digits = rw (one_part 61 a (digits_are_not 61 refl a digits)) refl
 
 pub value_no_item : (v : List ℕ) → spelled_value_write None v ≡ None
 unfolding spelled_value_write
-value_no_item v = by (two_of (cut_at 43 v)) (two_of (cut_at 45 v))
+value_no_item v = by (two_of (parts_at 43 v)) (two_of (parts_at 45 v))
   where
     by : (a b : Option (List ℕ × List ℕ)) → write_by None a b v ≡ None
     by (Some f) b = refl
@@ -180,7 +180,7 @@ value_no_item v = by (two_of (cut_at 43 v)) (two_of (cut_at 45 v))
 
 pub write_other : (a : List ℕ) (x : ℕ) (c : List ℕ) → list_all is_ascii_digit a ≡ true → is_ascii_digit x ≡ false → x ≢ 61 → spelled_write (a ++ x ∷ c) ≡ None
 unfolding spelled_write
-write_other a x c digits other differs = by (two_of (cut_at 61 (a ++ x ∷ c))) (two_pieces 61 (a ++ x ∷ c))
+write_other a x c digits other differs = by (two_of (parts_at 61 (a ++ x ∷ c))) (two_parts 61 (a ++ x ∷ c))
   where
     at : (p q : List ℕ) → a ++ x ∷ c ≡ p ++ 61 ∷ q → (n : Option ℕ) → number_of p ≡ n → spelled_value_write n q ≡ None
     at p q e None h = value_no_item q

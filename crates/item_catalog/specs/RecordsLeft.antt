@@ -21,12 +21,12 @@ abbrev pub records_seen : Inside → List (List (List ℕ))
 records_seen r = if r.has_ended then [] else records_left r.reader.state (bytes_left r.reader)
 
 -- A reader that goes on reads by the rules of records, and its bytes are known.
-pub record ReadsPlainRows (reader : Reader (Bor (List ℕ))) : Type 0 where
+pub record ReadsPlainRecords (reader : Reader (Bor (List ℕ))) : Type 0 where
   pub trim : reader.trim ≡ trim.None
   pub ready : Ready reader
   pub config : reader.config ≡ default_config
   pub known : IsSome (bytes_left reader)
 
--- Until the end the reader reads plain rows.
+-- Until the end the reader reads plain records.
 abbrev pub RecordsKept : Inside → Type 0
-RecordsKept r = r.has_ended ≡ false → ReadsPlainRows r.reader
+RecordsKept r = r.has_ended ≡ false → ReadsPlainRecords r.reader

@@ -1,4 +1,4 @@
--- For private steps alone. What the reader of a script speaks of: a start at the front, the answer for a list, and what
+-- For private steps alone. What the reader of a script speaks of: a leading start, the answer for a list, and what
 -- a script keeps, its limits and its counts.
 use Rattle.std.specs.Prelude.{◌≡◌, ◌<◌, ◌≤◌, ◌==◌, ◌&&◌, ◌++◌, ℕ, List, [], ◌∷◌, Bool, false, Option, Some, None, length, get_or}
 use Rattle.air_base.specs.declared.limits.TheConstants.{MOST_EVENTS, MOST_STARTS, MOST_UPDATERS}

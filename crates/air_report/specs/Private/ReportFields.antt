@@ -2,7 +2,7 @@
 use Rattle.std.specs.Prelude.{◌≡◌, ◌<◌, ℕ, get_or, length}
 use Rattle.air_base.specs.declared.limits.TheConstants.{MOST_UPDATERS}
 use Rattle.air_report.specs.ReportLines.{commits_by, starts_in}
-use Rattle.air_report.specs.declared.reading.draft.Draft.TheInside.{Inside}
+use Rattle.air_report.specs.declared.reading.draft.ReportDraft.TheInside.{Inside}
 
 -- The starts and each updater's commits are counted.
 pub record DraftCounts (d : Inside) : Type 0 where

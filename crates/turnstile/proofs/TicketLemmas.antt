@@ -1,4 +1,4 @@
--- A pass draws a ticket.
+-- A pass takes a ticket.
 use Rattle.std.proofs.Common.{◌≡◌, ℕ, ◌+◌, ◌%◌, ◌<◌, List, [], length, get_or, set, sym, refl, ap, ◌∙◌, arith}
 use Rattle.std.specs.Prelude.{Option, Some, None}
 use Rattle.std.proofs.lemmas.Option.{none-some, same_Some}
@@ -8,8 +8,8 @@ use lib.ListN.{get_elem?}
 use Rattle.atomic_table.specs.Table.{Me, step, keeps, Allows}
 use Rattle.turnstile.specs.declared.views.View.{View}
 use Rattle.turnstile.specs.Private.SeatViews.{times, ticket_count, waits, share}
-use Rattle.turnstile.specs.Private.TurnstileRule.{total, Knows, Kept}
-use Rattle.turnstile.specs.Private.SeatSteps.{HasDrawn}
+use Rattle.turnstile.specs.Private.TurnstileRule.{total, Knows, IsByRule}
+use Rattle.turnstile.specs.Private.SeatSteps.{HasTicket}
 use Rattle.turnstile.proofs.Totals.{total_set}
 use Rattle.turnstile.proofs.Tickets.{far}
 use Rattle.turnstile.proofs.ViewSteps.{seats, apart_set}
@@ -22,9 +22,9 @@ module _ {K E B : Type 0} (entries : K → List (ℕ × E)) (base : K → B) whe
   abbrev M : Type 0
   M = Me (Option K) V
 
-  pub draws : (slots id : ℕ) (me : M) → me.0.ticket ≡ None → 0 < length me.0.sight.numbers → me.0.old ≡ [] → me.0.noted ≡ None
-      → Allows (Kept entries base) slots id me 0 (λ n. (n + 1) % 18446744073709551616) (HasDrawn entries base (step slots 0 1 0 none) me)
-  draws slots id me free live calm rests s r wide at small =
+  pub takes : (slots id : ℕ) (me : M) → me.0.ticket ≡ None → 0 < length me.0.sight.numbers → me.0.old ≡ [] → me.0.noted ≡ None
+      → Allows (IsByRule entries base) slots id me 0 (λ n. (n + 1) % 18446744073709551616) (HasTicket entries base (step slots 0 1 0 none) me)
+  takes slots id me free live calm rests s r wide at small =
       let M64 : ℕ = 18446744073709551616 in
       let n : ℕ = get_or s.words 0 0 in
       let q : ℕ = total waits s.views in

@@ -1,5 +1,5 @@
 -- The whole records at the front of bytes, and what follows them: nothing, or what ends inside its first record.
--- `whole_front` and `cut_front` are what a reading tells of them, `front_read` what they are read as alone.
+-- `whole_to_end` and `whole_before_cut` are what a reading tells of them, `read_alone` what they are read as alone.
 use Rattle.std.proofs.Common.{◌≡◌, ◌≤◌, ◌*◌, ◌++◌, ◌∙◌, ℕ, List, [], ◌∷◌, Option, Some, None, refl, length, take, drop, sym, ap, subst, inl, inr, arith, length-append}
 use Rattle.std.proofs.lemmas.List.{drop_all, drop_at, take_all, take_at}
 use Rattle.std.proofs.lemmas.Grind.{flat_map-append}
@@ -8,10 +8,10 @@ use Rattle.air_model.proofs.ByteLemmas.{AllBytes}
 use Rattle.air_model.proofs.TapeLemmas.{AreShort, Tells, length_record, tells, whole_read}
 use Rattle.air_cli.specs.Private.Pieces.{AreWholeRecords}
 
-told_front : (piece : List ℕ) (n : ℕ) (rs : List (List ℕ)) (c : Option ℕ) → (tape_read piece).records ≡ rs → Tells 0 piece rs c → c ≡ Some n → AreWholeRecords piece n
+told_before_cut : (piece : List ℕ) (n : ℕ) (rs : List (List ℕ)) (c : Option ℕ) → (tape_read piece).records ≡ rs → Tells 0 piece rs c → c ≡ Some n → AreWholeRecords piece n
 unfolding Tells
-told_front piece n rs None same t here = absurd (cc here)
-told_front piece n rs (Some p) same t here =
+told_before_cut piece n rs None same t here = absurd (cc here)
+told_before_cut piece n rs (Some p) same t here =
     let at = t.1 in
     let b = t.2 in
     let place = b.place in
@@ -27,8 +27,8 @@ told_front piece n rs (Some p) same t here =
     }
 
 -- Where a piece is cut, the whole records stand before the cut.
-pub cut_front : (piece : List ℕ) (n : ℕ) → AllBytes piece → Some n ≡ (tape_read piece).cut → AreWholeRecords piece n
-cut_front piece n all here = told_front piece n (tape_read piece).records (tape_read piece).cut refl (tells (length piece) 0 piece all (omega arith)) (sym here)
+pub whole_before_cut : (piece : List ℕ) (n : ℕ) → AllBytes piece → Some n ≡ (tape_read piece).cut → AreWholeRecords piece n
+whole_before_cut piece n all here = told_before_cut piece n (tape_read piece).records (tape_read piece).cut refl (tells (length piece) 0 piece all (omega arith)) (sym here)
 
 told_whole : (piece : List ℕ) (rs : List (List ℕ)) (c : Option ℕ) → Tells 0 piece rs c → c ≡ None → AreShort rs × (piece ≡ tape_of rs)
 unfolding Tells
@@ -36,8 +36,8 @@ told_whole piece rs None t here = t
 told_whole piece rs (Some p) t here = absurd (cc here)
 
 -- Where it isn't, they are all of it.
-pub whole_front : (piece : List ℕ) → AllBytes piece → None ≡ (tape_read piece).cut → AreWholeRecords piece (length piece)
-whole_front piece all here =
+pub whole_to_end : (piece : List ℕ) → AllBytes piece → None ≡ (tape_read piece).cut → AreWholeRecords piece (length piece)
+whole_to_end piece all here =
     let t = told_whole piece (tape_read piece).records (tape_read piece).cut (tells (length piece) 0 piece all (omega arith)) (sym here) in
     record {
       within = omega arith;
@@ -46,8 +46,8 @@ whole_front piece all here =
     }
 
 -- They are read as these records, and nothing is cut.
-pub front_read : {piece : List ℕ} {n : ℕ} → AreWholeRecords piece n → ◌≡◌ {A = TapeRead} (tape_read (take n piece)) (record { records = (tape_read piece).records; cut = None })
-front_read {piece} {n} front =
+pub read_alone : {piece : List ℕ} {n : ℕ} → AreWholeRecords piece n → ◌≡◌ {A = TapeRead} (tape_read (take n piece)) (record { records = (tape_read piece).records; cut = None })
+read_alone {piece} {n} front =
     let rs = (tape_read piece).records in
     ap (λ bytes. tape_read bytes) front.whole.1 ∙ whole_read rs (length (tape_of rs)) 0 front.whole.0 (omega arith)
 

@@ -1,7 +1,7 @@
--- The number at the front of a text, by the digits there and what follows them.
+-- The leading number of a text, by the digits there and what follows them.
 --
 -- `part_ends` and `part_goes_on` answer the reader of the first part, `whole_number` and `no_whole` that of a whole text.
--- `part_with`, `after_byte` and `front_moved` go on behind a byte that stands between two numbers of one part.
+-- `part_with`, `after_byte` and `leading_moved` go on behind a byte that stands between two numbers of one part.
 use Rattle.std.proofs.Common.{◌≡◌, ◌<◌, ◌^◌, ◌++◌, ◌∷◌, [], ℕ, List, Option, Some, None, Bool, true, false, cond, not, length, nat_lt, refl, sym, ap, ◌∙◌, arith}
 use Rattle.std.specs.Prelude.{◌&&◌, ◌||◌, ◌==◌}
 use Rattle.std.specs.Char.{is_ascii_digit}
@@ -12,8 +12,8 @@ use Rattle.std.proofs.lemmas.List.Folds.{list_all-append}
 use Rattle.std.proofs.lemmas.Bool.{and_parts}
 use Rattle.std.proofs.lemmas.Bool.Decides.{nat_tests}
 use Rattle.air_base.specs.Numbers.{is_numeral, number_of}
-use Rattle.air_base.specs.LeadingParts.{FrontIs, leading_part, behind, is_no_space, first_part, after_part, begins, digits_of, after_digits, ends_part}
-use Rattle.air_base.proofs.LeadingPartLemmas.{front_past, behind_past, front_all, front_behind}
+use Rattle.air_base.specs.LeadingParts.{LeadingIs, leading_part, behind, is_no_space, first_part, after_part, begins, digits_of, after_digits, ends_part}
+use Rattle.air_base.proofs.LeadingPartLemmas.{leading_past, behind_past, leading_all, leading_behind}
 
 -- A number's text is digits, and its value fits 64 bits.
 pub spelled_digits : (text : List ℕ) (n : ℕ) → number_of text ≡ Some n → list_all is_ascii_digit text ≡ true
@@ -63,19 +63,19 @@ all_such p q such (x ∷ xs) h = let both = and_parts (p x) (list_all p xs) h in
 
 digits_no_spaces : (text : List ℕ) → list_all is_no_space (digits_of text) ≡ true
 unfolding digits_of
-digits_no_spaces text = all_such is_ascii_digit is_no_space digit_no_space (leading_part is_ascii_digit text) (front_all is_ascii_digit text)
+digits_no_spaces text = all_such is_ascii_digit is_no_space digit_no_space (leading_part is_ascii_digit text) (leading_all is_ascii_digit text)
 
--- The first part begins with the digits at the front; the rest of it is at the front of what follows them.
+-- The first part begins with the leading digits; the rest of it begins what follows them.
 pub part_by_digits : (text : List ℕ) → first_part text ≡ digits_of text ++ first_part (after_digits text)
 unfolding first_part digits_of after_digits
 part_by_digits text =
-    ap (leading_part is_no_space) (front_behind is_ascii_digit text)
-    ∙ front_past is_no_space (leading_part is_ascii_digit text) (behind is_ascii_digit text) (unfold digits_of in digits_no_spaces text)
+    ap (leading_part is_no_space) (leading_behind is_ascii_digit text)
+    ∙ leading_past is_no_space (leading_part is_ascii_digit text) (behind is_ascii_digit text) (unfold digits_of in digits_no_spaces text)
 
 pub after_by_digits : (text : List ℕ) → after_part text ≡ after_part (after_digits text)
 unfolding after_part digits_of after_digits
 after_by_digits text =
-    ap (behind is_no_space) (front_behind is_ascii_digit text)
+    ap (behind is_no_space) (leading_behind is_ascii_digit text)
     ∙ behind_past is_no_space (leading_part is_ascii_digit text) (behind is_ascii_digit text) (unfold digits_of in digits_no_spaces text)
 
 -- Nothing is before a space or the end.
@@ -94,7 +94,7 @@ behind_digits (x ∷ xs) c rest h = by (is_ascii_digit x) refl h (behind_digits 
     by true e h more = more h
     by false e h more = let same : x ≡ c = cc h in ap is_ascii_digit (sym same) ∙ e
 
--- A part that goes on behind its front.
+-- A part that goes on behind its digits.
 pub goes_on : (c : ℕ) (rest : List ℕ) → is_no_space c ≡ true → first_part (c ∷ rest) ≡ c ∷ first_part rest
 unfolding first_part
 goes_on c rest h = rw h refl
@@ -116,7 +116,7 @@ part_goes_on text on = by (after_digits text) refl on
         ap number_of (part_by_digits text ∙ ap (λ l. digits_of text ++ first_part l) e ∙ ap (λ l. digits_of text ++ l) (goes_on c cs (ap not on)))
         ∙ no_number (digits_of text ++ c ∷ first_part cs) (digits_then (digits_of text) c (first_part cs) (behind_digits text c cs e))
 
--- Where the digits at the front are no number, the first part is none.
+-- Where the leading digits are no number, the first part is none.
 pub no_digits : (text : List ℕ) → number_of (digits_of text) ≡ None → number_of (first_part text) ≡ None
 no_digits text none = by (ends_part (after_digits text)) refl
   where
@@ -131,12 +131,12 @@ other_part c rest other no_space = ap number_of (goes_on c rest no_space) ∙ no
 -- A text that is its first digits spells their number.
 pub whole_number : (text : List ℕ) → after_digits text ≡ [] → number_of (digits_of text) ≡ number_of text
 unfolding digits_of after_digits
-whole_number text none = ap number_of (sym (front_behind is_ascii_digit text ∙ rw none (append-nil (leading_part is_ascii_digit text))))
+whole_number text none = ap number_of (sym (leading_behind is_ascii_digit text ∙ rw none (append-nil (leading_part is_ascii_digit text))))
 
 -- A text spells no number where more than digits stands there, or where its first digits spell none.
 digits_and_more : (text : List ℕ) (c : ℕ) (cs : List ℕ) → after_digits text ≡ c ∷ cs → text ≡ digits_of text ++ c ∷ cs
 unfolding digits_of after_digits
-digits_and_more text c cs more = front_behind is_ascii_digit text ∙ ap (λ l. leading_part is_ascii_digit text ++ l) more
+digits_and_more text c cs more = leading_behind is_ascii_digit text ∙ ap (λ l. leading_part is_ascii_digit text ++ l) more
 
 pub more_whole : (text : List ℕ) (c : ℕ) (cs : List ℕ) → after_digits text ≡ c ∷ cs → number_of text ≡ None
 more_whole text c cs more = no_number text (ap (list_all is_ascii_digit) (digits_and_more text c cs more) ∙ digits_then (digits_of text) c cs (behind_digits text c cs more))
@@ -165,7 +165,7 @@ behind_byte text byte h = by (after_digits text) h
     by (c ∷ more) h = let same : c ≡ byte = grind (arith, nat_tests, h) in (more, ap (λ x. x ∷ more) same)
 
 -- What is read behind such a byte is read of the whole, where both values are the same.
-pub front_moved : {A : Type 0} (f g : List ℕ → Option A) (text more : List ℕ) (r : Option (A × List ℕ))
-    → f (first_part text) ≡ g (first_part more) → after_part more ≡ after_part text → FrontIs g more r → FrontIs f text r
-front_moved f g text more None same after h = same ∙ h
-front_moved f g text more (Some x) same after h = (same ∙ h.0, h.1 ∙ after)
+pub leading_moved : {A : Type 0} (f g : List ℕ → Option A) (text more : List ℕ) (r : Option (A × List ℕ))
+    → f (first_part text) ≡ g (first_part more) → after_part more ≡ after_part text → LeadingIs g more r → LeadingIs f text r
+leading_moved f g text more None same after h = same ∙ h
+leading_moved f g text more (Some x) same after h = (same ∙ h.0, h.1 ∙ after)

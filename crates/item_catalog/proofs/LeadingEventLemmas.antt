@@ -1,4 +1,4 @@
--- The event at the front of a list of the script: `s`, or a number.
+-- The leading event of a list of the script: `s`, or a number.
 use Rattle.std.proofs.Common.{◌≡◌, ◌∷◌, [], ℕ, suc, List, Some, None, Bool, true, false, cond, not, length, refl, sym, ap, ◌∙◌, arith, option_map, codes, take, drop, ◌-◌}
 use Rattle.std.specs.Prelude.{◌&&◌, ◌==◌}
 use Rattle.std.proofs.lemmas.List.{take_all}
@@ -6,10 +6,10 @@ use Rattle.std.proofs.lemmas.Bool.{and_parts}
 use Rattle.std.proofs.lemmas.Bool.Decides.{nat_tests}
 use Rattle.air_base.specs.Numbers.{number_of}
 use Rattle.air_base.specs.LeadingParts.{leading_part, is_no_space, first_part, after_part, ends_part}
-use Rattle.air_base.proofs.NumberFronts.{ended, goes_on}
+use Rattle.air_base.proofs.LeadingNumberLemmas.{ended, goes_on}
 use Rattle.item_catalog.specs.RecordFields.{◌is◌}
 use Rattle.item_catalog.specs.Fields.{spelled_event}
-use Rattle.item_catalog.specs.Private.ScriptView.{begins_start}
+use Rattle.item_catalog.specs.Private.ScriptFields.{begins_start}
 
 -- The first part is `s`, or isn't.
 pub start_part : (text : List ℕ) → begins_start text ≡ true → first_part text ≡ 115 ∷ []

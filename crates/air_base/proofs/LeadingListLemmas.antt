@@ -1,14 +1,14 @@
--- A list is read from its front: what is done, and what the rest spells, is what the whole spells.
+-- A list is read from its beginning: what is done, and what the rest spells, is what the whole spells.
 use Rattle.std.proofs.Common.{◌≡◌, ◌<◌, ◌≤◌, ◌++◌, ◌∷◌, [], ℕ, List, Option, Some, None, Bool, true, false, cond, refl, sym, ap, ◌∙◌, map, length, append_assoc, option_map, arith}
 use Rattle.air_base.specs.NumberLists.{all_some, list_of}
-use Rattle.air_base.specs.Pieces.{cut_at}
+use Rattle.air_base.specs.Parts.{parts_at}
 use Rattle.air_base.specs.LeadingParts.{after_part, behind, first_part, is_no_space}
 use Rattle.air_base.specs.ReadParts.{part_values, prepend}
-use Rattle.air_base.proofs.Cuts.{cut_first, cut_rest}
+use Rattle.air_base.proofs.PartsAt.{part_first, parts_behind}
 
-pub parts_front : (text : List ℕ) → cut_at 32 text ≡ first_part text ∷ cut_rest 32 (after_part text)
+pub parts_leading : (text : List ℕ) → parts_at 32 text ≡ first_part text ∷ parts_behind 32 (after_part text)
 unfolding first_part after_part
-parts_front text = cut_first 32 text
+parts_leading text = part_first 32 text
 
 pub list_spelled : {A : Type 0} (value : List ℕ → Option A) (text : List ℕ) → 0 < length text → list_of value text ≡ part_values value text
 list_spelled value [] some = absurd (omega arith)
@@ -27,17 +27,17 @@ module _ {A : Type 0} (value : List ℕ → Option A) (all : Option (List A)) (d
   -- One more part, behind which the list goes on.
   pub list_more : (x : A) (space : ℕ) (more : List ℕ) → value (first_part rest) ≡ Some x → after_part rest ≡ space ∷ more → prepend (done ++ x ∷ []) (part_values value more) ≡ all
   unfolding all_some
-  list_more x space more one after = sym (prepend_some done x (part_values value more)) ∙ sym (ap (λ ps. prepend done (all_some (map value ps))) (parts_front rest) ∙ rw (one, after) refl) ∙ told
+  list_more x space more one after = sym (prepend_some done x (part_values value more)) ∙ sym (ap (λ ps. prepend done (all_some (map value ps))) (parts_leading rest) ∙ rw (one, after) refl) ∙ told
 
   -- The last part.
   pub list_last : (x : A) → value (first_part rest) ≡ Some x → after_part rest ≡ [] → all ≡ Some (done ++ x ∷ [])
   unfolding all_some
-  list_last x one after = sym told ∙ ap (λ ps. prepend done (all_some (map value ps))) (parts_front rest) ∙ rw (one, after) refl
+  list_last x one after = sym told ∙ ap (λ ps. prepend done (all_some (map value ps))) (parts_leading rest) ∙ rw (one, after) refl
 
   -- A part that spells nothing.
   pub list_bad : value (first_part rest) ≡ None → all ≡ None
   unfolding all_some
-  list_bad none = sym told ∙ ap (λ ps. prepend done (all_some (map value ps))) (parts_front rest) ∙ rw none refl
+  list_bad none = sym told ∙ ap (λ ps. prepend done (all_some (map value ps))) (parts_leading rest) ∙ rw none refl
 
 -- What follows a part is no longer than the text.
 pub after_short : (text : List ℕ) → length (after_part text) ≤ length text

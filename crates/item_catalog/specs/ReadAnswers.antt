@@ -1,4 +1,4 @@
--- For private steps alone. What a call answers that reads a record.
+-- What a call answers that reads a record.
 use Rattle.std.specs.Prelude.{◌≡◌, Option, Some, None, Result, Ok, Err}
 use Rattle.item_catalog.specs.declared.records.refusals.Refusal.{Refusal}
 use Rattle.item_catalog.specs.declared.records.refusals.Refusal.TheVariants.{NoMemory, Kind}

@@ -4,7 +4,7 @@ use Rattle.air_base.specs.declared.limits.TheConstants.{MOST_UPDATERS}
 use Rattle.air_report.specs.ReportLines.{ReportLines, commits_by, starts_in}
 use Rattle.air_report.specs.declared.reading.lines.EventLine.TheVariants.{Commit}
 use Rattle.air_report.proofs.LineRuleLemmas.{commits_more, starts_all}
-use Rattle.air_report.proofs.reading.draft.Draft.push_event.Goals as goal
+use Rattle.air_report.proofs.reading.draft.ReportDraft.push_event.Goals as goal
 
 pub invariant_of-self-in-Commit : goal.invariant_of-self-in-Commit
 invariant_of-self-in-Commit c =

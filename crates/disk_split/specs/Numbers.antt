@@ -1,10 +1,10 @@
--- For private steps alone. The numbers of a deck that no split changes.
+-- The numbers of a deck that no split changes.
 use Rattle.std.specs.Prelude.{◌≡◌, ℕ, ◌+◌, ◌/◌, ◌≤◌, List, fold, length, map, slice_index, sum, take}
 use Rattle.std.specs.List.{range_with_len}
 use Rattle.air_model.specs.Decks.{Deck, rates_in}
 use Rattle.air_model.specs.Disks.{order}
 use Rattle.air_model.specs.Programs.{least_common_multiple}
-use Rattle.disk_split.specs.Private.Rests.{IsSplitRest, minor_from}
+use Rattle.disk_split.specs.Rests.{IsSplitRest, minor_from}
 
 -- The number of minor cycles of a cycle, whatever the sizes.
 unfoldable pub minors_in : Deck → ℕ
