@@ -39,6 +39,7 @@ pub mod RangeLemmas
 pub mod ReceiverLemmas
 pub mod ScriptLemmas
 pub mod SettleLemmas
+pub mod DozeLemmas
 pub mod SoundLemmas
 pub mod ReaderLemmas
 pub mod SessionExamples

@@ -1,6 +1,6 @@
 -- The words of the laws of sessions: what heard lists and queries keep, and what each line tells. The laws are the
 -- contracts of the functions of `sessions`.
-use Rattle.std.specs.Prelude.{◌≡◌, ◌↔◌, ℕ, ◌<◌, ◌≤◌, Bool, false, ◌&&◌, ◌==◌, nat_eq, nat_lt, List, [], ◌∷◌, ◌++◌, length, map, take, get_or, slice_get, All, Contains, IfSome, IsTrue, Option, Some}
+use Rattle.std.specs.Prelude.{◌≡◌, ◌≢◌, ◌↔◌, ℕ, ◌<◌, ◌≤◌, ◌+◌, max, Bool, false, ◌&&◌, ◌==◌, nat_eq, nat_lt, List, [], ◌∷◌, ◌++◌, fold, length, map, take, get_or, slice_get, All, Contains, IfSome, IsTrue, Option, Some}
 use Rattle.std.specs.List.{list_any}
 use Rattle.std.specs.Cmp.Lexicographic.{pointwise}
 use Rattle.air_base.specs.declared.verdicts.Policy.{Policy}
@@ -17,7 +17,7 @@ use Rattle.air_model.specs.Buckets.{Body, Bucket, Column, Idle, Vector, has_ages
 use Rattle.air_model.specs.Reads.{Read}
 use Rattle.air_model.specs.Aired.{Air, fits}
 use Rattle.air_model.specs.Judges.{Judge}
-use Rattle.air_model.specs.Sessions.{Reader, State, Line, is_wanted}
+use Rattle.air_model.specs.Sessions.{Reader, State, Line, hear, is_wanted, read_in, wanted}
 
 -- No query is empty.
 abbrev pub QueriesFilled : Reader → Type 0
@@ -110,3 +110,22 @@ pub record IsOfReader (reader : Reader) (l : Line) : Type 0 where
 -- The state with lines before its own.
 abbrev pub after : List Line → State → State
 after L s = record s { lines = L ++ s.lines }
+
+-- ---- dozing
+
+-- A bucket is unwanted where it fits, and is idle or of another item than the wanted one.
+pub record IsUnwanted (air : Air) (reader : Reader) (s : State) (b : Bucket) : Type 0 where
+  pub fitting : IsTrue (fits air b)
+  pub other : IfSome (read_in b.cycle b.body) (λ x. wanted reader s ≢ Some x.item)
+
+-- The newest of a cycle and those of these buckets.
+abbrev pub newest_of : ℕ → List Bucket → ℕ
+newest_of now buckets = fold (λ c b. max c b.cycle) now buckets
+
+-- These buckets are heard, one after another.
+abbrev pub hear_each : Judge → Air → Reader → List Bucket → State → State
+hear_each judge air reader buckets s = fold (λ t b. hear judge air reader (Some b) t) s buckets
+
+-- So many buckets more were dozed through, and the newest heard cycle is this one.
+abbrev pub dozed_through : ℕ → ℕ → State → State
+dozed_through n newest s = record s { now = newest; counts = record s.counts { dozed = s.counts.dozed + n } }

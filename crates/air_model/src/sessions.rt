@@ -1,5 +1,5 @@
 //! The laws of sessions: both judges give one session of a list that a history aired; what each line tells; settling
-//! comes to an end; lines are only added; and what a deck's readers tell.
+//! comes to an end; lines are only added; dozing only counts; and what a deck's readers tell.
 //!
 //! Each function's contract is one law of the definitions in `Judges` and `Sessions` of `specs/`; the bodies are empty.
 
@@ -14,7 +14,7 @@ ghost use Rattle.air_model.specs.Aired.{scheme_in, Air, IsAired, SlotsFit, air_o
 ghost use Rattle.air_model.specs.AiredLaws.{CanAir};
 ghost use Rattle.air_model.specs.Judges.{Judge, by_entries, by_history};
 ghost use Rattle.air_model.specs.Sessions.{Line, Reader, State, copy_of, end_query, hear, session, settle, turn, wanted};
-ghost use Rattle.air_model.specs.SessionLaws.{CyclesFromOne, IsExactLine, IsOfReader, IsSoundLine, NamesHeld, QueriesFilled, after, bare};
+ghost use Rattle.air_model.specs.SessionLaws.{CyclesFromOne, IsExactLine, IsOfReader, IsSoundLine, IsUnwanted, NamesHeld, QueriesFilled, after, bare, dozed_through, hear_each, newest_of};
 ghost use Rattle.air_model.specs.ReceiverLaws.{IsTrueSession};
 ghost use Rattle.air_model.specs.Outputs.{ether_of, sessions_over, true_sessions};
 
@@ -85,6 +85,17 @@ pub fn lines_law()
         hear judge air reader o (after L s) ≡ after L (hear judge air reader o s) }
     ensures ending { (judge : Judge) (air : Air) (reader : Reader) (L : List Line) (s : State) →
         end_query judge air reader (after L s) ≡ after L (end_query judge air reader s) }
+{}
+
+/// All that a settled receiver does with buckets that it doesn't want is to count them, and to note the newest cycle. It stays
+/// settled.
+pub fn doze_law()
+    ensures counts { (judge : Judge) (air : Air) (reader : Reader) (buckets : List Bucket) (s : State) →
+        copy_of (wanted reader s) s ≡ None → All (IsUnwanted air reader s) buckets →
+        hear_each judge air reader buckets s ≡ dozed_through (length buckets) (newest_of s.now buckets) s }
+    ensures settled { (judge : Judge) (air : Air) (reader : Reader) (buckets : List Bucket) (s : State) →
+        copy_of (wanted reader s) s ≡ None → All (IsUnwanted air reader s) buckets →
+        let t = hear_each judge air reader buckets s in copy_of (wanted reader t) t ≡ None }
 {}
 
 /// Wherever a history aired what a reader of a well made deck heard, its session is true. The history needn't be the deck's.
