@@ -1,5 +1,6 @@
 -- What the conductor's pass has seen, and the batches that are published of it.
 use Rattle.std.proofs.Common.{◌≡◌, ◌⊎◌, ℕ, ◌+◌, ◌≤◌, cond, List, [], ◌∷◌, ◌++◌, length, All, inl, inr, refl, sym, ◌∙◌, ap, subst, arith, append_assoc, length-append}
+use Rattle.std.specs.Prelude.{Result, Ok, Err, OnErr}
 use Rattle.std.proofs.lemmas.List.{append-nil}
 use Rattle.std.proofs.lemmas.List.Elements.{All-append, All-from_recursion, All-nil}
 use Rattle.std.proofs.lemmas.List.Sums.{sum_by-cons}
@@ -18,6 +19,7 @@ use Rattle.cycle_snapshot.proofs.BatchLemmas.{starts_append, events_more, board_
 use Rattle.cycle_snapshot.proofs.PrefixLemmas.{prefix_self, prefix_trans}
 use Rattle.air_model.specs.MonitorSights.{EndsAtStart}
 use Rattle.deck_runs.specs.PublishedBatches.{AreInStep, GoesOn, IsBoardOf, IsUpTo, PublishesOn}
+use Rattle.deck_runs.specs.Private.CycleSteps.{AddsBatch}
 
 -- ---- after the last start
 
@@ -192,3 +194,16 @@ board_at p b is =
 pub few_starts : (n : ℕ) (seen : List Event) (bs : List (List Event)) → length bs + 1 ≤ n → IsUpTo 0 seen bs ⊎ IsUpTo 1 seen bs → starts seen ≤ n
 few_starts n seen bs l (inl up) = let c = up.count in omega arith
 few_starts n seen bs l (inr up) = let c = up.count in omega arith
+
+-- One batch more, and so one start.
+pub one_start : (seen now : List Event) (f g : PublisherState) → IsUpTo 0 seen f.batches → AddsBatch f g → IsUpTo 0 now g.batches → starts now ≤ starts seen + 1
+one_start seen now f g before adds after =
+    let more : length g.batches ≡ length f.batches + 1 = ap (λ x. length x.batches) adds.1 ∙ length-append f.batches (adds.0 ∷ []) in
+    let first = before.count in
+    let last = after.count in
+    omega arith
+
+-- What holds anyway holds at a fault.
+pub at_fault : {T E : Type 0} (Q : Type 0) (r : Result T E) → Q → OnErr r Q
+at_fault Q (Ok x) h = tt
+at_fault Q (Err e) h = h

@@ -27,9 +27,11 @@ use Rattle.station.specs.PassStates.{PassState}
 use Rattle.cycle_snapshot.specs.SnapshotStates.{PublisherState}
 use Rattle.cycle_snapshot.proofs.BatchLemmas.{starts_append}
 use Rattle.deck_runs.proofs.CycleLemmas.{starts_head, starts_one}
-use Rattle.deck_runs.specs.Private.CycleSteps.{AddsBatch}
-use Rattle.deck_runs.specs.PublishedBatches.{AreInStep, GoesOn, IsUpTo}
-use Rattle.deck_runs.specs.Sendings.{FailsAfter, IsAirOf, SendsCycles, bytes_aired}
+use Rattle.deck_runs.specs.Private.CycleSteps.{AddsBatch, SendsInCycle}
+use Rattle.deck_runs.specs.PublishedBatches.{AreInStep, GoesOn, IsPublishedUpTo, IsUpTo}
+use Rattle.deck_runs.specs.declared.jobs.conductors.ConductFault.{ConductFault}
+use Rattle.deck_runs.specs.declared.jobs.conductors.ConductFault.TheVariants as conduct
+use Rattle.deck_runs.specs.Sendings.{FailsAfter, IsAirOf, SendsCycles, SendsUpTo, bytes_aired}
 
 -- ---- what a history airs
 
@@ -169,6 +171,22 @@ module _ (values : List ℕ) (air : Air) where
       front [] ys m s e = let same : s ≡ m + s = omega arith in ap (λ n. take n ys) same
       front (x ∷ xs) ys zero s e = absurd (omega arith)
       front (x ∷ xs) ys (suc m) s e = let same : suc (m + s) ≡ suc m + s = omega arith in ap (λ l. x ∷ l) (front xs ys m s (omega arith)) ∙ ap (λ n. take n (x ∷ xs ++ ys)) same
+
+  -- After so many whole cycles a cycle's fault ends the job.
+  pub ends_by : {M : Type 0} (state : M → MastState) (fault : ConductFault) (k cycles n : ℕ) → k < cycles → ((c : ℕ) → length (slots_at air c) ≡ n) → (p q : PassState) (f g h : PublisherState) (o m r : M)
+      → SendsCycles values air k (batch_events f.batches) (batch_events g.batches) (state o).told (state m).told → (state m).faults ≡ (state o).faults → (state m).port ≡ (state o).port → IsUpTo 0 p.seen f.batches → IsPublishedUpTo q.seen h.batches fault
+      → SendsInCycle state values air (k * n) (batch_events g.batches) (batch_events h.batches) m r fault → SendsUpTo state values air cycles p q f h o r fault
+  ends_by state (conduct.Mast sent) k cycles n less even p q f g h o m r before calm port first now (s, is, failed) =
+      let all = fails_further state k s n even (batch_events f.batches) (batch_events g.batches) (batch_events h.batches) o m r before calm port failed in
+      subst (λ n. FailsAfter state values air n p.seen q.seen o r) (sym is)
+      (fails_as state _ (batch_events f.batches) (batch_events h.batches) p.seen q.seen o r (seen_bytes values air p.seen f.batches first) (seen_bytes values air q.seen h.batches now) all)
+  ends_by state conduct.NoMemory k cycles n less even p q f g h o m r before calm port first now none =
+      let same : k + 0 ≡ k = omega arith in (
+        k,
+        less,
+        subst (λ n. SendsCycles values air n (batch_events f.batches) (batch_events h.batches) (state o).told (state r).told) same
+            (sends_further k 0 (batch_events f.batches) (batch_events g.batches) (batch_events h.batches) _ _ _ before none),
+      )
 
 -- ---- one cycle
 

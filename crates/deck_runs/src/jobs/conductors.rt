@@ -5,7 +5,6 @@ ghost use Rattle.air_model.specs.Programs.{program as slots_of};
 ghost use Rattle.air_model.specs.Aired.{Air};
 ghost use Rattle.deck_runs.specs.PublishedBatches.{AreInStep, GoesOn, IsBoardOf, IsPublishedUpTo, PublishesOn};
 ghost use Rattle.deck_runs.specs.Sendings.{CanAirIn, IsAirOf, IsCause, SendsCycles, SendsUpTo};
-ghost use Rattle.deck_runs.specs.Private.CycleSteps.{HasConducted};
 
 use crate::jobs::cycles::conduct_cycle;
 use crate::jobs::means::Means;
@@ -73,49 +72,12 @@ pub fn conductor_job<R: Wait, M: Mast, G: Gate>(
     ensures port { (M.state mast.new).port ≡ (M.state mast.old).port }
     ensures buffer { length buf.new ≡ length buf.old }
 {
-    let means = Means {
-        wait,
-        alloc,
-        station,
-        program,
-        form,
-    };
-    conduct(&means, pass, publisher, board, cycles, mast, buf, gate)
-}
-
-/// The conductor's job, with all that it leaves said at once.
-fn conduct<R: Wait, M: Mast, G: Gate>(
-    means: &Means<'_, R>,
-    pass: &mut ConductorPass,
-    publisher: &mut Publisher,
-    board: &mut Board,
-    cycles: u32,
-    mast: &mut M,
-    buf: &mut [u8],
-    gate: &G,
-) -> Result<(), ConductFault>
-    requires own { pass.old.station ≡ means.now.station.now }
-    requires step { AreInStep pass.old publisher.old board.old }
-    requires room { (starts pass.old.seen + cycles ≤ publisher.old.most) × (starts pass.old.seen + cycles + 1 < 2 ^ 32) }
-    requires airable { CanAirIn means.now.form pass.old.values means.now.program.now (length buf.old) }
-    ensures conducted { HasConducted M.state means.now.form (slots_of means.now.program.now) cycles pass.old pass.new publisher.old publisher.new board.new mast.old mast.new result }
-    ensures buffer { length buf.new ≡ length buf.old }
-{
-    means.program.shows_well_made();
-    let slots = u64::from(means.program.slots());
+    let means = Means::new(wait, alloc, station, program, form);
     for k in 0..cycles {
         let cycle = pass.started() + 1;
         gate.before_cycle(cycle);
-        match conduct_cycle(means, pass, publisher, board, mast, buf) {
-            Ok(()) => gate.after_cycle(cycle),
-            Err(ConductFault::NoMemory) => {
-                return Err(ConductFault::NoMemory);
-            }
-            Err(ConductFault::Mast { sent }) => {
-                let sent = u64::from(k) * slots + sent;
-                return Err(ConductFault::Mast { sent });
-            }
-        }
+        conduct_cycle(&means, k, pass, publisher, board, mast, buf)?;
+        gate.after_cycle(cycle);
     }
     Ok(())
 }

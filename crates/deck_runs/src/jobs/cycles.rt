@@ -1,5 +1,5 @@
 //! One cycle of a conductor: it starts, its events change the board, their batch is published, and its buckets are sent.
-ghost use Rattle.std.specs.Prelude.{◌≡◌, ◌<◌, ◌≤◌, ◌+◌, ◌-◌, ◌^◌, ◌++◌, ◌∷◌, List, [], length, All, IfErr, MatchResult, OnErr, OnOk};
+ghost use Rattle.std.specs.Prelude.{◌≡◌, ◌<◌, ◌≤◌, ◌+◌, ◌-◌, ◌*◌, ◌^◌, ◌++◌, ◌∷◌, List, [], length, All, IfErr, MatchResult, OnErr, OnOk};
 ghost use Rattle.air_history.specs.declared.histories.Event.{Event};
 ghost use Rattle.air_history.specs.Histories.{starts, ItemsFit};
 ghost use Rattle.air_history.specs.Tables.{BasesRead};
@@ -12,7 +12,7 @@ ghost use Rattle.control_matrix.specs.BoardSteps.{step_all};
 ghost use Rattle.deck_runs.specs.PublishedBatches.{AreInStep, GoesOn, IsBoardOf, IsPublishedUpTo, IsUpTo, PublishesOn};
 ghost use Rattle.deck_runs.specs.declared.jobs.conductors.ConductFault.TheVariants as fault;
 ghost use Rattle.deck_runs.specs.Sendings.{CanAirIn, IsAirOf, IsCause, SendsCycles};
-ghost use Rattle.deck_runs.specs.Private.CycleSteps.{AddsBatch, HasStopped, IsWithin, SendsInCycle};
+ghost use Rattle.deck_runs.specs.Private.CycleSteps.{AddsBatch, SendsInCycle};
 
 use crate::jobs::conductors::ConductFault;
 use crate::jobs::means::Means;
@@ -91,9 +91,10 @@ fn slot_of(fault: AirFault) -> u32
     }
 }
 
-/// Conducts one cycle. The fault tells how many of its buckets were sent.
+/// Conducts one cycle of a job, after so many whole cycles. The fault tells how many buckets of the job were sent.
 pub fn conduct_cycle<R: Wait, M: Mast>(
     means: &Means<'_, R>,
+    before: u32,
     pass: &mut ConductorPass,
     publisher: &mut Publisher,
     board: &mut Board,
@@ -108,19 +109,23 @@ pub fn conduct_cycle<R: Wait, M: Mast>(
     ensures publisher { PublishesOn publisher.old publisher.new }
     ensures done { OnOk result (AreInStep pass.new publisher.new board.new × (length publisher.new.batches ≡ length publisher.old.batches + 1)) }
     ensures board { IsBoardOf pass.new board.new }
-    ensures stopped { IfErr result (HasStopped 1 pass.new publisher.old publisher.new) }
-    ensures short { IfErr result (IsWithin (length (slots_of means.now.program.now))) }
+    ensures few { OnErr result (starts pass.new.seen ≤ starts pass.old.seen + 1) }
+    ensures published { IfErr result (IsPublishedUpTo pass.new.seen publisher.new.batches) }
     ensures aired { (air : Air) → IsAirOf pass.old.values means.now.form (slots_of means.now.program.now) air →
-        MatchResult result (λ _. SendsCycles pass.old.values air 1 (batch_events publisher.old.batches) (batch_events publisher.new.batches) (M.state mast.old).told (M.state mast.new).told) (SendsInCycle M.state pass.old.values air (batch_events publisher.old.batches) (batch_events publisher.new.batches) mast.old mast.new) }
+        MatchResult result (λ _. SendsCycles pass.old.values air 1 (batch_events publisher.old.batches) (batch_events publisher.new.batches) (M.state mast.old).told (M.state mast.new).told) (SendsInCycle M.state pass.old.values air (before * length (slots_of means.now.program.now)) (batch_events publisher.old.batches) (batch_events publisher.new.batches) mast.old mast.new) }
     ensures cause { MatchResult result (λ _. (M.state mast.new).faults ≡ (M.state mast.old).faults) (IsCause (M.state mast.old).faults (M.state mast.new).faults) }
     ensures port { (M.state mast.new).port ≡ (M.state mast.old).port }
     ensures buffer { length buf.new ≡ length buf.old }
 {
+    means.program.shows_well_made();
     begin_cycle(means, pass, publisher, board)?;
     match air_cycle(means.program, board, means.form, mast, buf) {
         Ok(()) => Ok(()),
-        Err(fault) => Err(ConductFault::Mast {
-            sent: u64::from(slot_of(fault)),
-        }),
+        Err(fault) => {
+            let slots = u64::from(means.program.slots());
+            let slot = u64::from(slot_of(fault));
+            let sent = u64::from(before) * slots + slot;
+            Err(ConductFault::Mast { sent })
+        }
     }
 }

@@ -1,4 +1,6 @@
 //! What a conductor works with and leaves as it is.
+ghost use Rattle.std.specs.Prelude.{◌≡◌};
+
 use air_base::Form;
 use chunk_program::Program;
 use station::Station;
@@ -12,4 +14,27 @@ pub struct Means<'a, R> {
     pub station: &'a Station,
     pub program: &'a Program,
     pub form: Form,
+}
+
+impl<'a, R> Means<'a, R> {
+    /// The means with these parts.
+    pub fn new(
+        wait: &'a R,
+        alloc: Global,
+        station: &'a Station,
+        program: &'a Program,
+        form: Form,
+    ) -> Means<'a, R>
+        ensures station { result.station.now ≡ station.now }
+        ensures program { result.program.now ≡ program.now }
+        ensures form { result.form ≡ form }
+    {
+        Means {
+            wait,
+            alloc,
+            station,
+            program,
+            form,
+        }
+    }
 }

@@ -6,16 +6,10 @@ use Rattle.control_matrix.specs.BoardSteps.{step_all}
 use Rattle.cycle_snapshot.proofs.BatchLemmas.{batch_starts}
 use Rattle.deck_runs.specs.PublishedBatches.{IsUpTo}
 use Rattle.air_sender.specs.BoardBuckets.{EntriesBelow}
-use Rattle.deck_runs.proofs.CycleLemmas.{board_ahead, board_cycle, board_kept, board_seen, board_sized, in_step}
+use Rattle.deck_runs.proofs.CycleLemmas.{at_fault, board_ahead, board_cycle, board_kept, board_seen, board_sized, in_step}
 use Rattle.deck_runs.proofs.SendLemmas.{front, last, started}
 use Rattle.cycle_snapshot.specs.Batches.{batch_events}
-use Rattle.std.specs.Prelude.{Result, Ok, Err, OnErr}
 use Rattle.deck_runs.proofs.jobs.cycles.begin_cycle.Goals as goal
-
--- What holds anyway holds at a fault.
-at_fault : {T E : Type 0} (Q : Type 0) (r : Result T E) → Q → OnErr r Q
-at_fault Q (Ok x) h = tt
-at_fault Q (Err e) h = h
 
 pub apply_all-requires-clause-fits : goal.apply_all-requires-clause-fits
 apply_all-requires-clause-fits g c =

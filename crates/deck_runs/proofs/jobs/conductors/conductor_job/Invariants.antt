@@ -4,7 +4,7 @@ use Rattle.air_model.specs.Aired.{Air}
 use Rattle.cycle_snapshot.specs.Batches.{batch_events}
 use Rattle.deck_runs.specs.PublishedBatches.{AreInStep, GoesOn, PublishesOn}
 use Rattle.deck_runs.specs.Sendings.{IsAirOf, SendsCycles}
-use Rattle.deck_runs.proofs.jobs.conductors.conduct.Given as goal
+use Rattle.deck_runs.proofs.jobs.conductors.conductor_job.Given as goal
 
 -- So many cycles were conducted.
 abbrev pub invariant-loop-k : goal.invariant-loop-k
