@@ -14,8 +14,17 @@ use air_base::NoMemory;
 use item_catalog::Deck;
 use std::alloc::Global;
 
-/// The tags of a report's lines.
-const TAGS: &str = "start, commit, accept, abort, unfinished, counts, glance and look";
+/// The tags of a report's lines where no attempt ends as aged, and where one may.
+const TAGS: [&str; 2] = [
+    "start, commit, accept, abort, unfinished, counts, glance and look",
+    "start, commit, accept, abort, aged, unfinished, counts, glance and look",
+];
+
+/// Where a line stands, with the later one above it, where no attempt ends as aged, and where one may.
+const ORDERS: [&str; 2] = [
+    "stands below the #name# line of record #first#: first come start and commit, then accept, abort and unfinished, then counts, then glance, then look",
+    "stands below the #name# line of record #first#: first come start and commit, then accept, abort, aged and unfinished, then counts, then glance, then look",
+];
 
 /// The rules that a line of a report may break, by the numbers of the faults' kinds; no kind has the number 0.
 const RULES: [&str; 8] = [
@@ -41,16 +50,42 @@ fn rule_of(kind: u8) -> Sentence<'static> {
     Sentence::numbers(rule, 0, 0, 0)
 }
 
-/// A line of a later section stands above; none where none does.
-fn order_note(before: &RecordsBefore, tag: RecordTag) -> Option<Sentence<'static>> {
+/// Whether the deck is told, and its attempts may end as aged.
+fn may_age(deck: Option<&Deck>) -> bool {
+    match deck {
+        Some(deck) => 2 <= deck.settings().version,
+        None => false,
+    }
+}
+
+/// The tag isn't one of the report's; of `aged` the deck has another version.
+fn unknown_tag_note<'a>(deck: Option<&Deck>, record: &'a Record) -> Sentence<'a> {
+    if report_form(record.field(0)).is_some() {
+        let wording = "the tag is #text#: only reports of decks of version 2 have it";
+        return Sentence::words(wording, record.field(0), "", "");
+    }
+    tag_note(record, if may_age(deck) { TAGS[1] } else { TAGS[0] })
+}
+
+/// The row and the name of a line of a later section above; none where there is none.
+fn later_line(before: &RecordsBefore, tag: RecordTag) -> Option<(u32, &'static str)> {
     for place in section(tag) + 1..5 {
-        if let Some((row, name)) = before.begun[place] {
-            let wording =
-                "stands below the #name# line of record #first#: first come start and commit, then accept, abort and unfinished, then counts, then glance, then look";
-            return Some(Sentence::words(wording, "", name, "").with(row as u64, 0, ""));
+        if before.begun[place].is_some() {
+            return before.begun[place];
         }
     }
     None
+}
+
+/// A line of a later section stands above; none where none does.
+fn order_note(
+    deck: Option<&Deck>,
+    before: &RecordsBefore,
+    tag: RecordTag,
+) -> Option<Sentence<'static>> {
+    let (row, name) = later_line(before, tag)?;
+    let wording = if may_age(deck) { ORDERS[1] } else { ORDERS[0] };
+    Some(Sentence::words(wording, "", name, "").with(row as u64, 0, ""))
 }
 
 /// A cycle of a line hasn't been started above it.
@@ -85,7 +120,7 @@ fn sentence_of<'a>(
     match (kind, deck) {
         (1, _) => Some(count_note(record, known)),
         (2, _) => report_field_note(record, known.form),
-        (4, _) => order_note(before, known.tag),
+        (4, _) => order_note(deck, before, known.tag),
         (5, Some(deck)) => Some(commit_note(deck, before, record)),
         (6, Some(deck)) => stranger_note(deck, record, known.tag),
         (7, _) => Some(cycle_note(before.starts, record, known.tag)),
@@ -104,8 +139,9 @@ fn note_parts<'a>(
     if !matches!(found.kind, Kind::Record) {
         return (nobody, rule_of(kind));
     }
-    let Some(known) = report_form(record.field(0)) else {
-        return (nobody, tag_note(record, TAGS));
+    let known = match report_form(record.field(0)) {
+        Some(known) if kind != 3 => known,
+        _ => return (nobody, unknown_tag_note(deck, record)),
     };
     match sentence_of(deck, found, known, kind) {
         Some(sentence) if kind == 1 => (nobody, sentence),

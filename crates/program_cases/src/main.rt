@@ -1,7 +1,7 @@
 //! Plays cases of decks' cuts and programs, of the cycles that are aired from a deck's board, and of the mast that gathers a tape.
 //!
-//! `items` and `disks` spell the text of a deck, which each question after them reads again: `slots`, `plan`, `cut` and `wait` ask for its
-//! program, `length`, `air` and `memory` for what is aired. The board is that of the deck's script and of one start more. `mast` makes
+//! `items` and `disks` spell the text of a deck, `repeat` goes on with the items, and each question after them reads it again: `slots`, `plan`,
+//! `cut` and `wait` ask for its program, `length`, `air` and `memory` for what is aired. The board is that of the deck's script and of one start more. `mast` makes
 //! the mast of a room, which `air`, `aim`, `send`, `finish`, `tape` and `clear` are about.
 #![tactic(auto)]
 
@@ -74,6 +74,7 @@ impl Player for ProgramPlayer {
     ) -> Result<(), NoMemory> {
         match word {
             b"items" => self.items = parts.text(alloc)?,
+            b"repeat" => self.items.extend_from_slice(&parts.rows(alloc)?)?,
             b"disks" => self.disks = parts.text(alloc)?,
             b"mast" => self.mast = TapeMast::new(alloc, parts.number())?,
             b"tape" => tapes::add_records(self.mast.tape(), came)?,

@@ -16,6 +16,7 @@ pub enum RecordTag {
     Commit,
     Accept,
     Abort,
+    Aged,
     Unfinished,
     Counts,
     Glance,
@@ -45,7 +46,7 @@ const DECK: [Row; 7] = [
 ];
 
 /// The records of a report.
-const REPORT: [Row; 8] = [
+const REPORT: [Row; 9] = [
     (RecordTag::Start, "start", "start"),
     (RecordTag::Commit, "commit", "commit,<by>,<seq>"),
     (
@@ -57,6 +58,11 @@ const REPORT: [Row; 8] = [
         RecordTag::Abort,
         "abort",
         "abort,<reader>,<query>,<attempt>,<reads>,<item>@<cycle>,<clash>",
+    ),
+    (
+        RecordTag::Aged,
+        "aged",
+        "aged,<reader>,<query>,<attempt>,<reads>,<item>@<cycle>",
     ),
     (
         RecordTag::Unfinished,
@@ -115,7 +121,7 @@ pub fn section(tag: RecordTag) -> usize
     ensures { result < 5 }
 {
     match tag {
-        RecordTag::Accept | RecordTag::Abort | RecordTag::Unfinished => 1,
+        RecordTag::Accept | RecordTag::Abort | RecordTag::Aged | RecordTag::Unfinished => 1,
         RecordTag::Counts => 2,
         RecordTag::Glance => 3,
         RecordTag::Look => 4,
@@ -132,6 +138,7 @@ pub fn has_list(tag: RecordTag) -> bool {
             | RecordTag::Script
             | RecordTag::Accept
             | RecordTag::Abort
+            | RecordTag::Aged
             | RecordTag::Unfinished
     )
 }

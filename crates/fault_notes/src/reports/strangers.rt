@@ -79,13 +79,18 @@ fn read_note(query: &[u16], reads: &str) -> Option<Sentence<'static>> {
     None
 }
 
-/// What is wrong with the refused read or the clash of an abort, whose query has this item next; none where nothing is.
-fn abort_note(next: u64, record: &Record) -> Option<Sentence<'static>> {
+/// The refused read isn't of the item that the query has next; none where it is.
+fn refused_note(next: u64, record: &Record) -> Option<Sentence<'static>> {
     let first = item_of(record.field(5))?;
-    if first != next {
-        let wording = "has the refused item #first#, and item #second# is the next of its query";
-        return Some(Sentence::numbers(wording, first, next, 0));
+    if first == next {
+        return None;
     }
+    let wording = "has the refused item #first#, and item #second# is the next of its query";
+    Some(Sentence::numbers(wording, first, next, 0))
+}
+
+/// The clash of an abort is no item of its reads; none where it is one.
+fn clash_note(record: &Record) -> Option<Sentence<'static>> {
     let first = record.number(6);
     if 0 < times_in(record.field(4), first) {
         return None;
@@ -104,7 +109,10 @@ fn items_note(query: &[u16], record: &Record, tag: RecordTag) -> Option<Sentence
         Some(_) if tag == RecordTag::Accept => {
             "has #first# of the #second# items of its query, and an accept has each"
         }
-        Some(item) if tag == RecordTag::Abort => return abort_note(*item as u64, record),
+        Some(item) if tag == RecordTag::Abort => {
+            return refused_note(*item as u64, record).or(clash_note(record));
+        }
+        Some(item) if tag == RecordTag::Aged => return refused_note(*item as u64, record),
         Some(_) => return None,
         None if tag == RecordTag::Accept => return None,
         None => "has each item of its query, as an accept alone has",
