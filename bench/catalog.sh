@@ -29,6 +29,23 @@ deck() {
     }'
 }
 
+# wide UPDATES: a deck of version 2 of 1,024 items, so many updates whose reads and writes are of items from 1,000 on, whose numbers have four digits
+wide() {
+    awk -v u="$1" 'BEGIN {
+        printf "set,version,2\n"
+        for (i = 0; i < 1024; i++) printf "item,%d,%d,1\n", i, i
+        printf "disk,1024,1\nreader,0,0,1\n"
+        for (k = 0; k < u; k++) {
+            printf "update,%d,", k % 16
+            for (j = 0; j < 16; j++) printf "%s%d", (j ? " " : ""), 1000 + (k + j) % 24
+            printf ","
+            for (j = 0; j < 16; j++) printf "%s%d=%d%s12", (j ? " " : ""), 1000 + (k + j) % 24, 1000 + (k + j) % 24, (j % 2 ? "-" : "+")
+            printf "\n"
+        }
+        printf "query,0,0\n"
+    }'
+}
+
 # fill FILE BYTES: as many line ends at the end of the file, which are no records, as it lacks of these bytes
 fill() {
     head -c $(($2 - $(wc -c <"$1"))) /dev/zero | tr '\0' '\n' >>"$1"
@@ -67,3 +84,5 @@ deck 100000 18446744073709551615 >"$scratch/deck.csv"
 row '100000 updates, amounts of 20 digits' "$scratch/deck.csv"
 fill "$scratch/deck.csv" 67108864
 row 'the same, filled up to 67108864 bytes' "$scratch/deck.csv"
+wide 50000 >"$scratch/deck.csv"
+row '50000 updates of items from 1,000 on' "$scratch/deck.csv"

@@ -14,7 +14,7 @@ committed while the cycle before is on the air. With --together all that change 
 that says that they belong together, so that a reader who has one of them from before and another from after it is refused. Take it where the
 rows make sense together alone, as the two sides of one account; else it costs attempts for nothing.
 
-Without a disk there is one for all; without a query one for each item, and they are those of one reader. NAMES gets the items' names, and how
+Without a disk there is one for all; without a query one for each item, and they are those of one reader. A deck of more than 256 items has version 2. NAMES gets the items' names, and how
 their values are written. Of a report the second form prints each read with its name and its value; names.py does so, and more.
 """
 import csv
@@ -25,7 +25,7 @@ import sys
 
 from names import HEAD, NUMBERS, Names, read_rows, stop
 
-WRITES, ITEMS, WANTED, RATE, DISKS, FREQUENCY, DIGITS, UPDATES, STARTS = 16, 256, 16, 1_000_000, 8, 64, 60, 100_000, 10_000
+WRITES, FULL_ITEMS, ITEMS, WANTED, RATE, DISKS, FREQUENCY, DIGITS, UPDATES, STARTS = 16, 256, 1024, 16, 1_000_000, 8, 64, 60, 100_000, 10_000
 REPORT = {"start", "commit", "accept", "abort", "unfinished", "aged", "counts", "glance", "look", "fault"}
 
 
@@ -174,6 +174,7 @@ def make(table, deck, names_file, wishes, together):
     names, rates, forms, values = read_table(table)
     lines = [["item", item, row[0], rate] for item, (row, rate) in enumerate(zip(values, rates))]
     lines += [["disk", *disk] for disk in read_disks(wishes, len(names))]
+    lines += [["set", "version", 2]] if len(names) > FULL_ITEMS else []
     moments = updates_of(values, together)
     count = sum(map(len, moments))
     if count > UPDATES:

@@ -40,7 +40,7 @@ def read_names(name):
     if not rows or rows[0] != HEAD:
         stop(f"{name} isn't the file of names that deck_from_table.py makes with a deck: its first line isn't {','.join(HEAD)}")
     for row in rows[1:]:
-        if len(row) != 3 or not re.fullmatch("[0-9]{1,3}", row[0]) or not re.fullmatch("[0-9]{1,3}|time", row[2]):
+        if len(row) != 3 or not re.fullmatch("[0-9]{1,4}", row[0]) or not re.fullmatch("[0-9]{1,3}|time", row[2]):
             stop(f"{name}: the line {','.join(row)} isn't an item's number, its name, and a number of decimals or the word time")
     return {int(item): (called, form) for item, called, form in rows[1:]}
 

@@ -17,8 +17,13 @@ DECKS = [
     "reader,1,0,2\nquery,0,2 1 0\nquery,0,1\nscript,s 0 s 0 s\nset,cycles,2\nset,monitors,1\n",
     "item,0,10,2\nitem,1,20,1\nitem,2,30,9\ndisk,3,1\nset,policy,R\nupdate,3,,2=1\nupdate,0,2,0=2+5\nreader,0,0,3\nquery,0,1 0 2\nreader,3,100,1\nquery,1,0\n"
     "query,1,2 0\nscript,3 s 0 s s\nset,cycles,2\nset,late,50\nset,hears,20\n",
+    "set,version,2\nitem,0,10,2\nitem,1,20,1\nitem,2,30,1\ndisk,1,2\ndisk,2,1\nupdate,0,,0=11\nupdate,0,0,1=0+10\nreader,2,300,2\nquery,0,0 1\n"
+    "query,0,2\nscript,s 0 s 0 s\nset,cycles,3\nset,loss,10\nset,late,20\n",
+    # as few items as make a search of `split` too long on one disk
+    "".join(f"item,{item},{1000 + item},{item % 7}\n" for item in range(775)) + "disk,775,1\nset,version,2\nupdate,0,774,1=774-5\nreader,1,9,2\n"
+    "query,0,774 1\nscript,0 s\nset,cycles,1\n",
 ]
-# Reports of a run of the decks that have monitors. They stand here since a run's threads make another history each time
+# Reports of a run of the decks that have monitors, since its threads make another history each time; and one with an attempt that aged
 RUNS = {
     DECKS[2]: [
         "commit,1,0\nstart\nstart\nstart\ncommit,0,0\ncommit,0,1\naccept,0,0,1,0@2=10 1@2=31\naccept,0,1,1,2@3=30\naccept,1,0,1,1@1=31 0@2=10 2@2=30\n"
@@ -27,14 +32,19 @@ RUNS = {
     DECKS[3]: [
         "commit,0,0\ncommit,0,1\nstart\nstart\naccept,0,0,1,2@1=4 1@1=7 0@1=0\naccept,0,1,1,1@2=7\ncounts,0,4,20,0,0,0,0\nglance,0,0,2\nlook,0,2,11\n"
     ],
+    DECKS[5]: [
+        "start\ncommit,0,0\n" + "start\n" * 255 + "aged,0,0,1,0@1=10,1@256\naccept,0,0,2,0@256=11 1@256=20\naccept,0,1,1,2@256=30\ncounts,0,5,9,0,0,0,0\n"
+    ],
 }
 
 DECK_FAULT = r"fault,2,[1-9][0-9]*,([1-9]|10|11)\n"
 TOO_LONG = r"fault,13,[1-9][0-9]*\n"
+TOO_MUCH = r"fault,11,[1-9][0-9]*\n"
 PART = r"[0-9]+@[0-9]+=[0-9]+"
 READS = rf"({PART}( {PART})*)?"
 HISTORY = r"((start|commit,[0-9]+,[0-9]+)\n)*"
-VERDICTS = rf"((accept|unfinished),[0-9]+,[0-9]+,[0-9]+,{READS}\n|abort,[0-9]+,[0-9]+,[0-9]+,{READS},[0-9]+@[0-9]+,[0-9]+\n)*"
+VERDICTS = (rf"((accept|unfinished),[0-9]+,[0-9]+,[0-9]+,{READS}\n|abort,[0-9]+,[0-9]+,[0-9]+,{READS},[0-9]+@[0-9]+,[0-9]+\n"
+            rf"|aged,[0-9]+,[0-9]+,[0-9]+,{READS},[0-9]+@[0-9]+\n)*")
 COUNTS = r"(counts(,[0-9]+){7}\n)*"
 SIGHTS = r"(glance(,[0-9]+){3}\n)*(look(,[0-9]+){3}\n)*"
 PLAN = r"program(,[0-9]+){3}\n(disk(,[0-9]+){4}\n)+(minor,[0-9]+,([0-9]+|-)( ([0-9]+|-))*\n)+(item(,[0-9]+){6}\n)+"
@@ -42,10 +52,10 @@ FINDINGS = r"(agrees,[0-9]+\n|differs,[0-9]+,(value|verdict|clash|total)\n)*audi
 # Of each command: its words, its other input, its weight, and the text of each status that it has over a file that can be read
 COMMANDS = {
     "plan": ("plan DECK", None, 4, {0: PLAN, 2: DECK_FAULT, 13: TOO_LONG}),
-    "split": ("split DECK", None, 2, {0: r"split,[1-9][0-9 ]*,[0-9]+\ngiven,[1-9][0-9 ]*,[0-9]+\n", 2: DECK_FAULT, 13: TOO_LONG}),
+    "split": ("split DECK", None, 2, {0: r"split,[1-9][0-9 ]*,[0-9]+\ngiven,[1-9][0-9 ]*,[0-9]+\n", 2: DECK_FAULT, 11: TOO_MUCH, 13: TOO_LONG}),
     "script": ("script DECK OUT", None, 6, {0: HISTORY + VERDICTS + COUNTS, 2: DECK_FAULT, 12: r"fault,12,[0-9]+\n", 13: TOO_LONG}),
     "tune": ("tune DECK TAPE", "TAPE", 8, {0: VERDICTS + COUNTS, 2: DECK_FAULT, 6: r"fault,6,[0-9]+\n", 13: TOO_LONG}),
-    "audit": ("audit DECK REPORT", "REPORT", 8, {0: FINDINGS + r"0\n", 2: DECK_FAULT, 8: r"fault,8,[1-9][0-9]*,[1-7]\n", 9: FINDINGS + r"[1-9][0-9]*\n", 11: r"fault,11,[0-9]+\n"}),
+    "audit": ("audit DECK REPORT", "REPORT", 8, {0: FINDINGS + r"0\n", 2: DECK_FAULT, 8: r"fault,8,[1-9][0-9]*,[1-7]\n", 9: FINDINGS + r"[1-9][0-9]*\n", 11: TOO_MUCH}),
     "run": ("run DECK OUT", None, 4, {0: HISTORY + VERDICTS + COUNTS + SIGHTS, 2: DECK_FAULT, 12: r"fault,12,[0-9]+\n", 13: TOO_LONG}),
     "listen": ("listen DECK {port}", "AIR", 1, {0: VERDICTS + COUNTS, 2: DECK_FAULT, 13: TOO_LONG}),
 }
