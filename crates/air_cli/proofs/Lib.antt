@@ -42,3 +42,5 @@ mod RunExamples
 mod ListenExamples
 mod AnswerExamples
 mod HeadlineExamples
+mod CounterExamples
+mod LimitExamples

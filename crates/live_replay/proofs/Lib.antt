@@ -18,3 +18,4 @@ pub mod FindingTexts
 pub mod AuditLemmas
 pub mod AuditExamples
 mod TextExamples
+mod LimitExamples
