@@ -38,6 +38,9 @@ keeps = record { reading = λ n. refl; writing = λ n. refl; printing = refl }
 not_keeps : (KeepsCounts (one_count 3) printed_once → ⊥) × (KeepsCounts printed_once (one_count 3) → ⊥)
 not_keeps = (λ h. let e : 4 ≡ 3 = h.printing in omega (arith, e), λ h. let e : 3 ≡ 4 = h.printing in omega (arith, e))
 
+stands : NoCountFalls (one_count 3) (one_count 3)
+stands = record { reading = λ n. omega arith; writing = λ n. omega arith; printing = omega arith }
+
 no_fall : NoCountFalls (one_count 3) printed_once
 no_fall = record { reading = λ n. omega arith; writing = λ n. omega arith; printing = omega arith }
 

@@ -63,3 +63,4 @@ mod RunExamples
 mod PartExamples
 mod RowExamples
 mod AiredRunExamples
+mod CounterExamples

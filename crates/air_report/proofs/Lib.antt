@@ -31,3 +31,4 @@ mod LineExamples
 mod StatusExamples
 pub mod SpelledExamples
 mod PrintedExamples
+mod EndExamples

@@ -13,7 +13,7 @@ use Rattle.air_model.specs.Decks.{IsLegal}
 use Rattle.air_model.specs.Reports.{Report, report_text}
 use Rattle.air_model.specs.Rows.{rows_text}
 use Rattle.air_base.specs.declared.limits.TheConstants.{MOST_ASKED, MOST_RATE}
-use Rattle.item_catalog.specs.DeckLimits.{DiskWithin, ReaderWithin, WithinLimits}
+use Rattle.item_catalog.specs.DeckLimits.{DiskWithin, ReplanWithin, ReaderWithin, WithinLimits}
 use Rattle.air_report.specs.LineTexts.{short_of, spelled_item, spelled_place, spelled_read}
 use Rattle.air_report.specs.ReadReports.{IsReportOf}
 use Rattle.air_report.specs.ReportGrammar.{HasReportFault, SpellsReport}
@@ -166,6 +166,7 @@ within = record {
   rates = All-from_recursion (λ i. i.rate ≤ MOST_RATE) deck.items (omega arith, (omega arith, tt));
   disks = omega arith;
   disk = All-from_recursion DiskWithin deck.disks (record { size = omega arith; freq = omega arith }, tt);
+  replans = All-nil ReplanWithin;
   updaters = omega arith;
   updates = omega arith;
   readers = omega arith;
