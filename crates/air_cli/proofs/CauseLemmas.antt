@@ -54,7 +54,7 @@ unfolding UnrunnableCause DeckCause UnreadCause
 deck_runs name before now (status.PlanTooLong slots) h = absurd h
 deck_runs name before now s h = h
 
--- Nor can a deck whose program would be too long.
+-- Nor can a deck of which a program would be too long.
 pub length_runs : (name : List ℕ) (before now : ShelfState) (d : Deck) (s : Status) → SpellsDeck name before d → IsDeck d → LengthCause d s → UnrunnableCause name before now s
 unfolding UnrunnableCause DeckCause UnreadCause LengthCause
 length_runs name before now d status.NoMemory spells made h = h

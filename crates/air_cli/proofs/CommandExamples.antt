@@ -1,12 +1,12 @@
 -- What commands on a told shelf give, and why they are refused: where each relation holds, and where it doesn't.
 use Rattle.std.proofs.Common.{◌≡◌, ◌<◌, ◌≤◌, ℕ, true, false, List, [], ◌∷◌, Option, Some, None, All, length, refl, sym, ap, subst, ◌∙◌, inl, inr, arith}
 use Rattle.std.specs.Prelude.{codes}
-use Rattle.std.proofs.lemmas.List.Elements.{All-from_recursion}
+use Rattle.std.proofs.lemmas.List.Elements.{All-from_recursion, All-nil}
 use Rattle.air_base.specs.declared.limits.TheConstants.{MOST_ASKED, MOST_DECK_BYTES, MOST_RATE}
 use Rattle.air_devices.specs.Counts.{Rose}
 use Rattle.air_devices.specs.Shelves.{ShelfState}
 use Rattle.air_devices.specs.WhatIsTold.{WhereTold}
-use Rattle.air_model.specs.Decks.{Deck, IsDeck, disks_in, script_history}
+use Rattle.air_model.specs.Decks.{Deck, IsDeck, script_history}
 use Rattle.air_model.specs.Drills.{drill_deck}
 use Rattle.air_model.specs.Outputs.{ether_of, script_tape}
 use Rattle.air_model.specs.Tapes.{ends_inside, read_from, tape_read}
@@ -17,8 +17,8 @@ use Rattle.air_model.proofs.ReceiverLemmas.{receiver}
 use Rattle.air_model.proofs.ScriptLemmas.{script}
 use Rattle.air_report.specs.declared.status.Status.TheVariants as status
 use Rattle.air_sender.proofs.TapeLemmas.{tape_back}
-use Rattle.chunk_program.specs.Plans.{IsTooLong}
-use Rattle.item_catalog.specs.DeckLimits.{DiskWithin, ReaderWithin, WithinLimits}
+use Rattle.chunk_program.specs.Plans.{IsFirstTooLong}
+use Rattle.item_catalog.specs.DeckLimits.{DiskWithin, ReaderWithin, ReplanWithin, WithinLimits}
 use Rattle.item_catalog.specs.Grammar.{Spells}
 use Rattle.item_catalog.proofs.GrammarLemmas.{one_deck}
 use Rattle.live_replay.proofs.AuditExamples.{is_audit, its_bytes, one_finding, small, small_is_deck}
@@ -28,17 +28,18 @@ use Rattle.air_cli.specs.ReportsAndTapes.{ReportAndTape}
 use Rattle.air_cli.specs.NamedDecks.{DeckCause, HasDeck, IsFaulty, SpellsDeck}
 use Rattle.air_cli.specs.NamedFiles.{HasBytes, UnreadCause}
 use Rattle.air_cli.specs.Plan.{PlanGives}
-use Rattle.air_cli.specs.RunnableDecks.{HasShortProgram, UnrunnableCause}
+use Rattle.air_cli.specs.RunnableDecks.{HasShortPrograms, UnrunnableCause}
 use Rattle.air_cli.specs.Script.{ScriptCause, ScriptGives}
 use Rattle.air_cli.specs.Truths.{AreTrue, IsTrueScript, IsTrueTape}
 use Rattle.air_cli.specs.Tune.{IsTuned, TuneCause, TuneGives, tune_given}
 use Rattle.air_cli.specs.Private.GivenTexts.{audit_given, drill_given, plan_given, script_given}
+use Rattle.air_cli.proofs.InputLemmas.{too_long}
 use Rattle.air_cli.proofs.ToldExamples.{its_deck, script_bytes, shelf, short, spells, spells_deck}
 use Rattle.air_cli.proofs.TruthLemmas.{true_script, true_tape}
 
 -- ---- the deck that a file spells
 
-has_deck : HasDeck (codes "d") shelf HasShortProgram
+has_deck : HasDeck (codes "d") shelf HasShortPrograms
 has_deck = (small, spells_deck, small_is_deck, short)
 
 -- The told file spells no other deck than this one.
@@ -76,8 +77,8 @@ not_plan = (
   λ h. let differs : true ≡ false = h.0 in cc,
 )
 
--- Where nothing is told there is a deck all the same whose program has the slots that are told.
-program_too_long : (d : Deck) (slots : ℕ) (untold : ShelfState) → untold.told.file (codes "d") ≡ None → IsDeck d → IsTooLong (disks_in d 0) slots
+-- Where nothing is told there is a deck all the same whose first program that is too long has the slots that are told.
+program_too_long : (d : Deck) (slots : ℕ) (untold : ShelfState) → untold.told.file (codes "d") ≡ None → IsDeck d → IsFirstTooLong d slots
     → UnrunnableCause (codes "d") untold untold (status.PlanTooLong slots)
 unfolding UnrunnableCause
 program_too_long d slots untold none made long =
@@ -110,10 +111,10 @@ not_too_large = (λ h. let limit : 9 ≡ 10 = h.0 in omega (arith, limit), λ h.
     not_failed (inl rose) = omega arith
     not_failed (inr last) = omega (arith, last.0)
 
--- Its program isn't too long, whatever number is told.
+-- None of its programs is too long, whatever number is told.
 not_unrunnable : (slots : ℕ) → UnrunnableCause (codes "d") shelf shelf (status.PlanTooLong slots) → ⊥
 unfolding UnrunnableCause
-not_unrunnable slots (d, is, made, long) = let few : IsTooLong (disks_in small 0) slots = subst (λ d. IsTooLong (disks_in d 0) slots) (the_deck d is) long in omega (arith, few.counted, few.above, short)
+not_unrunnable slots (d, is, made, long) = too_long small slots short (subst (λ d. IsFirstTooLong d slots) (the_deck d is) long)
 
 -- Out of memory has no cause to show.
 wanting : UnrunnableCause (codes "d") shelf shelf status.NoMemory
@@ -127,6 +128,7 @@ within = record {
   rates = All-from_recursion (λ i. i.rate ≤ MOST_RATE) small.items (omega arith, (omega arith, tt));
   disks = omega arith;
   disk = All-from_recursion DiskWithin small.disks (record { size = omega arith; freq = omega arith }, tt);
+  replans = All-nil ReplanWithin;
   updaters = omega arith;
   updates = omega arith;
   readers = omega arith;
@@ -170,9 +172,9 @@ not_script = (
 not_script_too_long : (bytes : ℕ) → ScriptCause (codes "d") shelf shelf (status.TooLong bytes) → ⊥
 unfolding ScriptCause
 not_script_too_long bytes (d, is, made, long) =
-    let few = subst (λ d. HasShortProgram d × (bytes ≡ length (script_tape d)) × (1073741824 < bytes)) (the_deck d is) long in omega (arith, few.1, few.2, script_bytes)
+    let few = subst (λ d. HasShortPrograms d × (bytes ≡ length (script_tape d)) × (1073741824 < bytes)) (the_deck d is) long in omega (arith, few.1, few.2, script_bytes)
 
-script_too_long : (d : Deck) (untold : ShelfState) → untold.told.file (codes "d") ≡ None → IsDeck d → HasShortProgram d → length (script_tape d) ≡ 1073741825
+script_too_long : (d : Deck) (untold : ShelfState) → untold.told.file (codes "d") ≡ None → IsDeck d → HasShortPrograms d → length (script_tape d) ≡ 1073741825
     → ScriptCause (codes "d") untold untold (status.TooLong 1073741825)
 unfolding ScriptCause
 script_too_long d untold none made can counted =

@@ -17,11 +17,10 @@ use Rattle.air_history.specs.Histories.{front, is_start, reads, starts, writer, 
 use Rattle.air_history.specs.Places.{last_place}
 use Rattle.air_history.specs.Reads.{ReadAt, origin}
 use Rattle.air_history.specs.Tables.{BasesRead, table, value_after, value_on_base, values_of, write_of}
-use Rattle.air_model.specs.Aired.{scheme_in}
-use Rattle.air_model.specs.Decks.{Deck, disks_in, event_of, script_history, values_in}
+use Rattle.air_model.specs.Aired.{air_of, scheme_in, slots_at}
+use Rattle.air_model.specs.Decks.{Deck, event_of, script_history, values_in}
 use Rattle.air_model.specs.Judges.{by_entries}
 use Rattle.air_model.specs.Outputs.{cast_output, run_tape, script_output, script_tape, sessions_over, tune_output}
-use Rattle.air_model.specs.Programs.{program}
 use Rattle.air_model.specs.Reports.{Report, report_text, session_report}
 use Rattle.air_model.specs.Rows.{rows_text}
 use Rattle.air_model.specs.Tapes.{TapeRead, ends_inside, read_from, tape_read}
@@ -30,11 +29,11 @@ use Rattle.air_model.proofs.SessionExamples.{aired_in, chained_deck, s, u}
 use Rattle.air_report.specs.ReadReports.{IsReportOf}
 use Rattle.air_report.specs.declared.reading.ReadReport.{ReadReport}
 use Rattle.air_report.specs.declared.status.Status.TheVariants as status
-use Rattle.air_sender.specs.TapeSizes.{cycle_size}
-use Rattle.air_sender.proofs.TapeLengths.{plain_size}
+use Rattle.air_sender.specs.TapeSizes.{tape_size}
+use Rattle.air_sender.proofs.TapeLengths.{history_size}
 use Rattle.deck_runs.specs.DeckBytes.{deck_bytes}
 use Rattle.deck_runs.specs.RunTapes.{run_tape_len}
-use Rattle.deck_runs.proofs.HeardRunLemmas.{OneHistoryLaw, run_size}
+use Rattle.deck_runs.proofs.HeardRunLemmas.{OneHistoryLaw, run_sum}
 use Rattle.live_replay.specs.FindingLaws.{GivesLook, GivesVerdict}
 use Rattle.live_replay.specs.FindingTexts.{findings_text}
 use Rattle.live_replay.proofs.AuditExamples.{is_report, its_bytes, one_finding, read_in, small, ten}
@@ -164,7 +163,8 @@ no_tape text h =
     let written : Some [] ≡ Some (run_tape h.d H) = h.written in
     let here : [] ≡ run_tape h.d H = cc in
     let none : [] ≡ run_tape small H = subst (λ d. [] ≡ run_tape d H) same here in
-    let long : length (run_tape small H) ≡ run_tape_len small = plain_size small refl H ∙ ap (λ n. n * cycle_size small.settings.version (length small.items) (program (disks_in small 0))) cycles ∙ sym (run_size small refl) in
+    let long : length (run_tape small H) ≡ run_tape_len small = history_size (values_in small) (air_of small) H
+    ∙ ap (tape_size small.settings.version (length small.items) (slots_at (air_of small))) cycles ∙ sym (run_sum small) in
     omega (arith, ap length none, long, run_bytes)
 
 -- None printed nothing: what it prints tells one history, and that has ten starts.

@@ -1,31 +1,41 @@
 -- The sessions that are printed are true: from the laws of the model at a deck of the grammar.
-use Rattle.std.proofs.Common.{◌≡◌, ℕ, zero, suc, ◌+◌, ◌<◌, ◌≤◌, ◌*◌, List, ◌∷◌, length, map, refl, ap, ◌∙◌, arith}
+use Rattle.std.proofs.Common.{◌≡◌, ℕ, zero, suc, ◌+◌, ◌<◌, ◌≤◌, ◌*◌, List, [], ◌∷◌, length, map, refl, ap, ◌∙◌, arith}
 use Rattle.std.specs.List.{range_with_len}
+use Rattle.air_base.specs.declared.limits.TheConstants.{MOST_SLOTS}
 use Rattle.item_catalog.specs.DeckLimits.{WithinLimits}
 use Rattle.air_model.specs.Buckets.{bucket_in, spelling}
-use Rattle.air_model.specs.Decks.{Deck, IsDeck, script_history, values_in}
+use Rattle.air_model.specs.Decks.{Deck, IsDeck, disks_in, rates_in, script_history, values_in}
+use Rattle.air_model.specs.Disks.{cut, order}
 use Rattle.air_model.specs.Draws.{words_of}
 use Rattle.air_model.specs.Ethers.{heard_by}
 use Rattle.air_model.specs.Aired.{air_of, buckets_of}
 use Rattle.air_model.specs.AiredLaws.{CanAir}
 use Rattle.air_model.specs.Outputs.{ether_of, odds_in}
+use Rattle.air_model.specs.Programs.{program}
 use Rattle.air_cli.proofs.ModelLaws.{BytesLaw, EventsLaw, HeardWasPushedLaw, ReceiverLaw, ScriptLaw}
-use Rattle.air_cli.specs.RunnableDecks.{HasShortProgram}
+use Rattle.air_cli.specs.RunnableDecks.{HasShortPrograms}
+use Rattle.air_model.proofs.DeckLemmas.{each_edition}
 use Rattle.air_sender.proofs.TapeLemmas.{slots_short}
 use Rattle.air_sender.proofs.TapeSizes.{starts_script}
 use Rattle.air_cli.specs.Truths.{IsTrueScript, IsTrueTape}
 
+-- ---- the programs
+
+-- Where a deck has no replans, its own program alone has to be short enough.
+pub short_programs : (d : Deck) → d.replans ≡ [] → length (program (disks_in d 0)) ≤ MOST_SLOTS → HasShortPrograms d
+short_programs d none short = each_edition (λ specs. length (program (cut (order (rates_in d)) specs)) ≤ MOST_SLOTS) d none short
+
 -- ---- the script
 
-pub can_air : (d : Deck) → IsDeck d → WithinLimits d → HasShortProgram d → ScriptLaw → CanAir d (script_history d)
+pub can_air : (d : Deck) → IsDeck d → WithinLimits d → HasShortPrograms d → ScriptLaw → CanAir d (script_history d)
 can_air d made limits short script = record {
   made = made;
   legal = script d made.script;
   cycles = omega (arith, starts_script d, limits.starts);
-  slots = slots_short d made short;
+  slots = slots_short d short;
 }
 
-pub true_script : (d : Deck) → IsDeck d → WithinLimits d → HasShortProgram d → ScriptLaw → EventsLaw → BytesLaw → HeardWasPushedLaw → ReceiverLaw → IsTrueScript d
+pub true_script : (d : Deck) → IsDeck d → WithinLimits d → HasShortPrograms d → ScriptLaw → EventsLaw → BytesLaw → HeardWasPushedLaw → ReceiverLaw → IsTrueScript d
 unfolding heard_by
 true_script d made limits short script events bytes pushed receiver =
     let H = script_history d in

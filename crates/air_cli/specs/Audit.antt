@@ -19,7 +19,7 @@ use Rattle.air_cli.specs.Meanings.{Meaning, no_command}
 abbrev pub HasReport : List ℕ → List ℕ → ShelfState → (Deck → List ℕ → Type 0) → Type 0
 HasReport deck report before P = HasDeck deck before (λ d. HasBytes report before (λ bytes. (length bytes ≤ MOST_REPORT_BYTES) × P d bytes))
 
--- Why it is refused: its deck, whatever the length of the deck's program; or there is one, and the report can't be read; or it was
+-- Why it is refused: its deck, whatever the length of the deck's programs; or there is one, and the report can't be read; or it was
 -- read to its end, and has a fault, or too much would be replayed.
 unfoldable pub AuditCause : List ℕ → List ℕ → ShelfState → ShelfState → Status → Type 0
 AuditCause deck report before now (status.Report row kind) =

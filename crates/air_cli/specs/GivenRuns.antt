@@ -15,7 +15,7 @@ pub record IsGivenRun (deck : Deck) (given : ReportAndTape) (run : Run) : Type 0
   pub true_is : IsTrueRun deck run
   pub given_is : given ≡ record { text = run_output deck run.history run.glances run.looks; tape = run_tape deck run.history; differs = false }
 
--- Why a deck that has a program isn't run: its tape would be too long. Out of memory has no cause.
+-- Why a deck that has plans isn't run: its tape would be too long. Out of memory has no cause.
 unfoldable pub IsRunRefusal : Deck → Status → Type 0
 IsRunRefusal deck (status.TooLong bytes) = IsLongRun deck bytes
 IsRunRefusal deck status.NoMemory = ⊤

@@ -8,7 +8,7 @@ use Rattle.air_model.specs.Decks.{Deck, IsDeck}
 use Rattle.air_report.specs.declared.status.Status.{Status}
 use Rattle.air_report.specs.declared.status.Status.TheVariants as status
 use Rattle.air_cli.specs.NamedDecks.{HasDeck, SpellsDeck}
-use Rattle.air_cli.specs.RunnableDecks.{HasShortProgram, UnrunnableCause}
+use Rattle.air_cli.specs.RunnableDecks.{HasShortPrograms, UnrunnableCause}
 use Rattle.air_cli.specs.ReportsAndTapes.{ReportAndTape}
 use Rattle.air_cli.specs.Meanings.{Meaning, no_command}
 use Rattle.air_cli.specs.Truths.{IsTrueTape}
@@ -40,7 +40,7 @@ pub record HasHeardPort (d : Deck) (on : ℕ) (before now : EarState) : Type 0 w
 -- told; or its deck can't be run, and the ear is as it was.
 unfoldable pub ListenCause : List ℕ → ℕ → EarState → EarState → ShelfState → ShelfState → Status → Type 0
 ListenCause deck on old new before now (status.AirFault at) =
-    (d : Deck) × SpellsDeck deck before d × IsDeck d × HasShortProgram d × IsBrokenListening d on at old new
+    (d : Deck) × SpellsDeck deck before d × IsDeck d × HasShortPrograms d × IsBrokenListening d on at old new
 ListenCause deck on old new before now status.NoMemory = ⊤
 ListenCause deck on old new before now s = UnrunnableCause deck before now s × (new ≡ old)
 
@@ -48,13 +48,13 @@ ListenCause deck on old new before now s = UnrunnableCause deck before now s × 
 -- and this is the report over what its readers heard. Nothing in it differs.
 unfoldable pub ListenGives : List ℕ → ℕ → EarState → EarState → ShelfState → ReportAndTape → Type 0
 ListenGives deck on old new before given =
-    (given.differs ≡ false) × ((d : Deck) × SpellsDeck deck before d × IsDeck d × HasShortProgram d × ((heard : List (List ℕ)) × IsListening d on old new given heard))
+    (given.differs ≡ false) × ((d : Deck) × SpellsDeck deck before d × IsDeck d × HasShortPrograms d × ((heard : List (List ℕ)) × IsListening d on old new given heard))
 
 -- It reads its deck, which must be one that can be run, and writes no output; it succeeds where no call of the ear failed.
 abbrev pub listen_meaning : List ℕ → ℕ → EarState → EarState → Meaning
 listen_meaning deck on old new = record no_command {
   IsInput = λ name. name ≡ deck;
-  Suits = λ before. HasDeck deck before HasShortProgram × (Rose old.faults new.faults → ⊥);
+  Suits = λ before. HasDeck deck before HasShortPrograms × (Rose old.faults new.faults → ⊥);
   Refuses = ListenCause deck on old new;
   Gives = ListenGives deck on old new;
 }

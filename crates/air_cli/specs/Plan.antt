@@ -4,21 +4,21 @@ use Rattle.air_devices.specs.Shelves.{ShelfState}
 use Rattle.air_model.specs.Decks.{Deck, IsDeck}
 use Rattle.air_model.specs.Outputs.{plan_output}
 use Rattle.air_cli.specs.NamedDecks.{HasDeck, SpellsDeck}
-use Rattle.air_cli.specs.RunnableDecks.{HasShortProgram, UnrunnableCause}
+use Rattle.air_cli.specs.RunnableDecks.{HasShortPrograms, UnrunnableCause}
 use Rattle.air_cli.specs.Meanings.{Meaning, no_command}
 use Rattle.air_cli.specs.ReportsAndTapes.{ReportAndTape}
 
--- What it gives: there is a well-made deck whose program is short enough, the one that the named file spells where it is told; and
+-- What it gives: there is a well-made deck whose programs are short enough, the one that the named file spells where it is told; and
 -- this is its plan, and no tape. Nothing in it differs.
 unfoldable pub PlanGives : List ℕ → ShelfState → ReportAndTape → Type 0
 PlanGives deck before given =
-    (given.differs ≡ false) × ((d : Deck) × SpellsDeck deck before d × IsDeck d × HasShortProgram d × (given ≡ record { text = plan_output d; tape = []; differs = false }))
+    (given.differs ≡ false) × ((d : Deck) × SpellsDeck deck before d × IsDeck d × HasShortPrograms d × (given ≡ record { text = plan_output d; tape = []; differs = false }))
 
 -- It reads its deck, which must be one that can be run, and writes no output.
 abbrev pub plan_meaning : List ℕ → Meaning
 plan_meaning deck = record no_command {
   IsInput = λ name. name ≡ deck;
-  Suits = λ before. HasDeck deck before HasShortProgram;
+  Suits = λ before. HasDeck deck before HasShortPrograms;
   Refuses = UnrunnableCause deck;
   Gives = PlanGives deck;
 }

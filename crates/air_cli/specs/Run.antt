@@ -5,7 +5,7 @@ use Rattle.air_devices.specs.Shelves.{ShelfState}
 use Rattle.air_model.specs.Decks.{Deck, IsDeck}
 use Rattle.air_report.specs.declared.status.Status.{Status}
 use Rattle.air_report.specs.declared.status.Status.TheVariants as status
-use Rattle.air_cli.specs.RunnableDecks.{HasShortProgram, UnrunnableCause}
+use Rattle.air_cli.specs.RunnableDecks.{HasShortPrograms, UnrunnableCause}
 use Rattle.air_cli.specs.NamedDecks.{HasDeck, SpellsDeck}
 use Rattle.air_cli.specs.ReportsAndTapes.{ReportAndTape}
 use Rattle.air_model.specs.Runs.{Run}
@@ -13,13 +13,13 @@ use Rattle.air_cli.specs.GivenRuns.{IsGivenRun}
 use Rattle.deck_runs.specs.RunTapes.{run_tape_len}
 use Rattle.air_cli.specs.Meanings.{Meaning, no_command}
 
--- A deck can be run: its program is short enough, and so is the tape of each of its runs.
+-- A deck can be run: its programs are short enough, and so is the tape of each of its runs.
 abbrev pub CanRun : Deck → Type 0
-CanRun d = HasShortProgram d × (run_tape_len d ≤ MOST_TAPE_BYTES)
+CanRun d = HasShortPrograms d × (run_tape_len d ≤ MOST_TAPE_BYTES)
 
 -- Why it is refused: its deck can't be run; or there is one that can, and the tape would have so many bytes, more than a tape may have.
 unfoldable pub RunCause : List ℕ → ShelfState → ShelfState → Status → Type 0
-RunCause deck before now (status.TooLong bytes) = HasDeck deck before (λ d. HasShortProgram d × (bytes ≡ run_tape_len d) × (MOST_TAPE_BYTES < bytes))
+RunCause deck before now (status.TooLong bytes) = HasDeck deck before (λ d. HasShortPrograms d × (bytes ≡ run_tape_len d) × (MOST_TAPE_BYTES < bytes))
 RunCause deck before now s = UnrunnableCause deck before now s
 
 -- What it gives: there is a well-made deck that can be run, the one that the named file spells where it is told; and this is report

@@ -1,25 +1,23 @@
 -- Which decks can be run, and why a named deck can't be.
-use Rattle.std.specs.Prelude.{ℕ, ◌≤◌, List, length, ⊤}
-use Rattle.air_base.specs.declared.limits.TheConstants.{MOST_SLOTS}
+use Rattle.std.specs.Prelude.{ℕ, List, ⊤}
 use Rattle.air_devices.specs.Shelves.{ShelfState}
-use Rattle.air_model.specs.Decks.{Deck, disks_in}
-use Rattle.air_model.specs.Programs.{program}
-use Rattle.chunk_program.specs.Plans.{IsTooLong}
+use Rattle.air_model.specs.Decks.{Deck}
+use Rattle.chunk_program.specs.Plans.{AreShort, IsFirstTooLong}
 use Rattle.air_report.specs.declared.status.Status.{Status}
 use Rattle.air_report.specs.declared.status.Status.TheVariants as status
 use Rattle.air_cli.specs.NamedDecks.{DeckCause, HasDeck}
 
--- The deck's program has no more slots than a program may have.
-abbrev pub HasShortProgram : Deck → Type 0
-HasShortProgram d = length (program (disks_in d 0)) ≤ MOST_SLOTS
+-- No program of the deck has more slots than a program may have.
+abbrev pub HasShortPrograms : Deck → Type 0
+HasShortPrograms d = AreShort d
 
--- Why the deck has no program: its program would be too long.
+-- Why the deck isn't planned: one of its programs would be too long, and the first such program has so many slots.
 unfoldable pub LengthCause : Deck → Status → Type 0
-LengthCause d (status.PlanTooLong slots) = IsTooLong (disks_in d 0) slots
+LengthCause d (status.PlanTooLong slots) = IsFirstTooLong d slots
 LengthCause d status.NoMemory = ⊤
 LengthCause d other = ⊥
 
--- Why there is no deck that can be run: there is no deck; or there is one, and its program would be too long.
+-- Why there is no deck that can be run: there is no deck; or there is one, and one of its programs would be too long.
 unfoldable pub UnrunnableCause : List ℕ → ShelfState → ShelfState → Status → Type 0
-UnrunnableCause deck before now (status.PlanTooLong slots) = HasDeck deck before (λ d. IsTooLong (disks_in d 0) slots)
+UnrunnableCause deck before now (status.PlanTooLong slots) = HasDeck deck before (λ d. IsFirstTooLong d slots)
 UnrunnableCause deck before now s = DeckCause deck before now s

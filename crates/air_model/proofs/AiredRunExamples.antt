@@ -41,6 +41,7 @@ two_is_deck = record {
   aired = each_edition (All (λ d. (0 < d.size) × (0 < d.freq))) two refl (pair_is_deck.aired 0 (omega arith));
   few = omega arith;
   from_two = pair_is_deck.from_two;
+  within_a_run = pair_is_deck.within_a_run;
   rising = pair_is_deck.rising;
   updates = All-from_recursion (All (IsUpdate 2)) two.updates (
     All-from_recursion (IsUpdate 2) (update [] (set_to 0 11 ∷ []) ∷ []) (is_update 0 (omega arith) 11 (omega arith), tt),
@@ -50,7 +51,6 @@ two_is_deck = record {
   tries = pair_is_deck.tries;
   queries = pair_is_deck.queries;
   script = λ by. omega arith;
-  plain = refl;
 }
 
 -- The history is whole: each updater made all of its updates, and the conductor both cycles.

@@ -15,7 +15,7 @@ use Rattle.air_history.specs.Histories.{EventFits, ItemsFit}
 use Rattle.air_history.specs.Tables.{BasesRead}
 use Rattle.air_model.specs.Disks.{Disk, DiskSpec, cut, is_hotter, order, order_with}
 use Rattle.air_model.specs.Programs.{chunk, minor_cycle, num_chunks, num_minors, program}
-use Rattle.air_model.specs.Decks.{Deck, IsDeck, IsLegal, IsQuery, IsUpdate, count_editions, disks_in, rates_in, specs_in, updates_by}
+use Rattle.air_model.specs.Decks.{Deck, IsDeck, IsLegal, IsQuery, IsUpdate, count_editions, disks_in, no_replan, rates_in, specs_in, updates_by}
 use Rattle.air_model.specs.Aired.{SlotsFit, air_of}
 use Rattle.air_model.specs.SessionLaws.{QueriesFilled}
 use Rattle.air_model.specs.Sessions.{reader_of}
@@ -30,7 +30,12 @@ all_at P xss h n = elim (cases_lt n (length xss)) as (λ _. All P (get_or xss n 
 
 -- ---- editions
 
--- What a deck's own disks keep, the disks of each edition keep where there is no replan.
+-- What a deck's own disks and those of each replan keep, the disks of each edition keep;
+pub by_editions : (P : List DiskSpec → Type 0) (deck : Deck) → P deck.disks → All (λ r. P r.disks) deck.replans → (e : ℕ) → e < count_editions deck → P (specs_in deck e)
+by_editions P deck own others zero l = own
+by_editions P deck own others (suc k) l = others k no_replan (omega arith)
+
+-- and where there is no replan, what the deck's own disks keep.
 pub each_edition : (P : List DiskSpec → Type 0) (deck : Deck) → deck.replans ≡ [] → P deck.disks → (e : ℕ) → e < count_editions deck → P (specs_in deck e)
 each_edition P deck none h zero l = h
 each_edition P deck none h (suc k) l = absurd (let no : length deck.replans ≡ 0 = ap length none in omega arith)

@@ -6,7 +6,7 @@ use Rattle.std.proofs.lemmas.Bool.{leb-false, leb-true}
 use Rattle.std.proofs.lemmas.List.FromFn.{get_or-map-range_with_len}
 use Rattle.std.proofs.lemmas.List.Sums.{count_by-le-length, sum_by-cons}
 use Rattle.air_model.specs.Aired.{Air, air_of, edition_at, pix_at, pix_in, scheme_in, slots_at}
-use Rattle.air_model.specs.Decks.{Deck, IsPlain, Replan, count_editions, disks_in, edition}
+use Rattle.air_model.specs.Decks.{Deck, Replan, count_editions, disks_in, edition}
 use Rattle.air_model.specs.Programs.{program}
 
 count_cycles : (rs : List Replan) (c : ℕ) → count_by (λ at. nat_le at c) (map (λ r. r.cycle) rs) ≡ count_by (λ r. nat_le r.cycle c) rs
@@ -75,8 +75,8 @@ air_with deck replans editions = record {
   pix = map (pix_in deck) (range_with_len 0 editions);
 }
 
--- The air of a plain deck has one list of slots and one of PIX numbers.
-pub plain_air : (deck : Deck) → IsPlain deck → air_of deck ≡ record {
+-- The air of a deck without replans has one list of slots and one of PIX numbers.
+pub plain_air : (deck : Deck) → deck.replans ≡ [] → air_of deck ≡ record {
   scheme = scheme_in deck;
   version = deck.settings.version;
   items = length deck.items;

@@ -3,6 +3,7 @@ use Rattle.std.proofs.Common.{◌≡◌, ◌≢◌, ℕ, zero, suc, ◌+◌, ◌
 use Rattle.std.proofs.lemmas.List.Elements.{All-nil, All-from_recursion}
 use Rattle.std.proofs.lemmas.Bool.{false≢true}
 use Rattle.std.proofs.lemmas.List.Kept.{AllPairs-cons}
+use Rattle.air_base.specs.declared.limits.TheConstants.{MOST_CYCLES}
 use Rattle.air_base.specs.declared.verdicts.Policy.TheVariants.{FMatrix}
 use Rattle.air_history.specs.Columns.{scheme_of, column_entry}
 use Rattle.air_history.specs.Histories.{front, starts, is_start}
@@ -46,6 +47,7 @@ pair_is_deck = record {
   aired = each_edition (All (λ d. (0 < d.size) × (0 < d.freq))) pair refl (All-from_recursion (λ d. (0 < d.size) × (0 < d.freq)) pair.disks ((omega arith, omega arith), tt));
   few = omega arith;
   from_two = All-nil (λ r. 2 ≤ r.cycle);
+  within_a_run = All-nil (λ r. r.cycle ≤ MOST_CYCLES);
   rising = λ i j d less within. absurd (omega arith);
   updates = All-from_recursion (All (IsUpdate 2)) pair.updates (All-nil (IsUpdate 2), tt);
   readers = refl;
@@ -56,7 +58,6 @@ pair_is_deck = record {
     tt,
   );
   script = λ by. omega arith;
-  plain = refl;
 }
 
 -- So it is in version 2.
@@ -70,13 +71,13 @@ aged_pair_is_deck = record {
   aired = pair_is_deck.aired;
   few = pair_is_deck.few;
   from_two = pair_is_deck.from_two;
+  within_a_run = pair_is_deck.within_a_run;
   rising = pair_is_deck.rising;
   updates = pair_is_deck.updates;
   readers = pair_is_deck.readers;
   tries = pair_is_deck.tries;
   queries = pair_is_deck.queries;
   script = pair_is_deck.script;
-  plain = refl;
 }
 
 -- Two items that change between two cycles, which are all that its settings ask for.

@@ -1,8 +1,11 @@
 -- A deck that changes its program over at cycle 2, computed: its editions, its buckets and which fit, its sessions and its plan.
-use Rattle.std.proofs.Common.{◌≡◌, ◌⊎◌, ℕ, ◌+◌, ◌*◌, ◌<◌, ◌≤◌, true, false, List, [], ◌∷◌, ◌++◌, Some, length, map, refl, ap, inl, inr, arith}
+use Rattle.std.proofs.Common.{◌≡◌, ◌⊎◌, ℕ, ◌+◌, ◌*◌, ◌^◌, ◌<◌, ◌≤◌, true, false, List, [], ◌∷◌, ◌++◌, Some, map, All, sum_by, refl, inl, inr, arith}
 use Rattle.std.specs.Prelude.{codes, replicate}
+use Rattle.std.proofs.lemmas.List.Elements.{All-from_recursion, All-nil}
+use Rattle.std.proofs.lemmas.List.Kept.{AllPairs-cons}
 use Rattle.csv.specs.Writing.{escaped, fields_text, is_blank}
 use Rattle.air_base.specs.Numbers.{number_text}
+use Rattle.air_base.specs.declared.limits.TheConstants.{MOST_CYCLES}
 use Rattle.air_base.specs.declared.verdicts.Counts.{Counts}
 use Rattle.air_base.specs.declared.verdicts.Policy.TheVariants.{FMatrix}
 use Rattle.air_base.specs.declared.verdicts.VerdictKind.TheVariants.{Accept, Unfinished}
@@ -13,6 +16,7 @@ use Rattle.air_history.specs.Columns.{scheme_of, column_entry, vector_entry}
 use Rattle.air_history.specs.Tables.{value_on_base, write_of, value_after, table}
 use Rattle.air_history.specs.Reads.{origin, stale}
 use Rattle.air_history.specs.Consistency.{descends_from, runs_alone, last_alone, consistent}
+use Rattle.air_history.specs.UpdateRules.{has_repeat}
 use Rattle.air_history.specs.Clashes.{least, is_late, clash_by_history, clash_by_entries}
 use Rattle.air_model.specs.Aired.{Air, air_of, body_fits, body_of, bucket_of, buckets_of, cycle_buckets, edition_at, fits, pix_at, slots_at}
 use Rattle.air_model.specs.AiredItems.{IsAiredItem}
@@ -20,7 +24,7 @@ use Rattle.air_model.specs.Airings.{chunks_of, disk_number, gap_of, next_wake, p
 use Rattle.air_model.specs.Batches.{last_buckets}
 use Rattle.air_model.specs.Buckets.{Bucket, Column, capped_body, capped_entries}
 use Rattle.air_model.specs.Copies.{keep, without_item, with_copy}
-use Rattle.air_model.specs.Decks.{Deck, IsDeck, IsPlain, Replan, count_editions, disks_in, edition, event_of, no_replan, script_history, specs_in, values_in}
+use Rattle.air_model.specs.Decks.{Deck, IsDeck, IsQuery, IsUpdate, Replan, count_editions, disks_in, edition, event_of, no_replan, script_history, specs_in, values_in}
 use Rattle.air_model.specs.Disks.{DiskSpec, cut, order, order_with}
 use Rattle.air_model.specs.Judges.{by_entries, by_history}
 use Rattle.air_model.specs.Outputs.{plan_output}
@@ -28,6 +32,7 @@ use Rattle.air_model.specs.PlanTexts.{edition_rows, plan_rows, plan_text, replan
 use Rattle.air_model.specs.Programs.{chunk, chunk_len, least_common_multiple, minor_cycle, minor_len, num_chunks, num_minors, program}
 use Rattle.air_model.specs.Rows.{rows_text}
 use Rattle.air_model.specs.Sessions.{Line, abort, accept_if_whole, copy_of, count_copied, count_dozed, count_foreign, count_late, count_opened, count_refused, decide, drop_copy, end, end_aged, end_query, hear, hear_all, hear_read, hold, is_unusable, judge_read, line_of, next_attempt, next_query, offer, open_bucket, query_of, session, settle, turn, turn_with, wanted, with_line}
+use Rattle.air_model.proofs.DeckLemmas.{by_editions}
 use Rattle.air_model.proofs.SessionExamples.{aired_in, all_of, by_both, counts_with, deck, item, line, over, read, s}
 
 -- A disk of so many items, each aired so often.
@@ -96,14 +101,47 @@ replanned replans = record asks_both { replans = replans }
 abbrev many_items : ℕ → ℕ → Deck
 many_items version n = aired_in version (record asks_both { items = replicate n (item 10 1); replans = [] })
 
--- So far a deck is plain: there is no replan.
-plain : IsPlain (replanned [])
-plain = refl
+-- The deck that turns twice, in these cycles.
+abbrev twice : ℕ → ℕ → Deck
+twice c d = replanned (to_two_disks c ∷ to_two_disks d ∷ [])
+
+abbrev is_aired : DiskSpec → Type 0
+is_aired x = (0 < x.size) × (0 < x.freq)
+
+-- It is well made where the first isn't before cycle 2, and the second is later, at cycle 10,000 at most.
+is_made : (c d : ℕ) → 2 ≤ c → c < d → d ≤ 10000 → IsDeck (twice c d)
+unfolding has_repeat
+is_made c d from less most = record {
+  some = omega arith;
+  version = inl refl;
+  most = omega arith;
+  values = All-from_recursion (λ i. i.value < 2 ^ 64) asks_both.items (omega arith, (omega arith, (omega arith, tt)));
+  sizes = by_editions (λ specs. sum_by (λ x. x.size) specs ≡ 3) (twice c d) refl (All-from_recursion (λ r. sum_by (λ x. x.size) r.disks ≡ 3) (twice c d).replans (refl, (refl, tt)));
+  aired = by_editions (All is_aired) (twice c d) (All-from_recursion is_aired (spec 3 1 ∷ []) ((omega arith, omega arith), tt))
+      (All-from_recursion (λ r. All is_aired r.disks) (twice c d).replans (both, (both, tt)));
+  few = omega arith;
+  from_two = All-from_recursion (λ r. 2 ≤ r.cycle) (twice c d).replans (from, (omega arith, tt));
+  within_a_run = All-from_recursion (λ r. r.cycle ≤ MOST_CYCLES) (twice c d).replans (omega arith, (most, tt));
+  rising = AllPairs-cons (λ a b. a.cycle < b.cycle) (to_two_disks c) (to_two_disks d ∷ []) (All-from_recursion (λ r. c < r.cycle) (to_two_disks d ∷ []) (less, tt))
+      (λ i j x before within. absurd (omega arith));
+  updates = All-from_recursion (All (IsUpdate 3)) ([] ∷ []) (All-nil (IsUpdate 3), tt);
+  readers = refl;
+  tries = All-from_recursion (λ r. 1 ≤ r.tries) asks_both.readers (omega arith, tt);
+  queries = All-from_recursion (All (IsQuery 3)) asks_both.queries (
+    All-from_recursion (IsQuery 3) ((2 ∷ 0 ∷ []) ∷ [])
+        (record { filled = omega arith; distinct = refl; within = All-from_recursion (λ i. i < 3) (2 ∷ 0 ∷ []) (omega arith, (omega arith, tt)) }, tt),
+    tt,
+  );
+  script = λ by. omega arith;
+}
+  where
+    both : All is_aired (spec 1 2 ∷ spec 2 1 ∷ [])
+    both = All-from_recursion is_aired (spec 1 2 ∷ spec 2 1 ∷ []) ((omega arith, omega arith), ((omega arith, omega arith), tt))
 
 pub record NotMade : Type 0 where
-  turned : IsDeck asks_both → ⊥
-  -- replans come from cycle 2 on, one after another, 16 at most
+  -- replans come from cycle 2 on, one after another, until cycle 10,000, 16 at most
   in_the_first_cycle : IsDeck (replanned (to_two_disks 1 ∷ [])) → ⊥
+  too_late : IsDeck (replanned (to_two_disks 10001 ∷ [])) → ⊥
   in_one_cycle : IsDeck (replanned (to_two_disks 2 ∷ to_two_disks 2 ∷ [])) → ⊥
   too_many : IsDeck (replanned (replicate 17 (to_two_disks 2))) → ⊥
   -- the disks of each take all items, and each is aired
@@ -117,8 +155,8 @@ pub record NotMade : Type 0 where
 
 not_made : NotMade
 not_made = record {
-  turned = λ h. let none : 1 ≡ 0 = ap length h.plain in omega (arith, none);
   in_the_first_cycle = λ h. let low : 2 ≤ 1 = h.from_two 0 no_replan (omega arith) in omega arith;
+  too_late = λ h. let most : 10001 ≤ 10000 = h.within_a_run 0 no_replan (omega arith) in omega arith;
   in_one_cycle = λ h. let less : 2 < 2 = h.rising 0 1 no_replan (omega arith) (omega arith) in omega arith;
   too_many = λ h. let few : 17 ≤ 16 = h.few in omega arith;
   too_few_items = λ h. let two : 2 ≡ 3 = h.sizes 1 (omega arith) in omega (arith, two);

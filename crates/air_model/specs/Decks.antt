@@ -3,7 +3,7 @@
 use Rattle.std.specs.Prelude.{◌≡◌, ◌⊎◌, ℕ, zero, suc, ◌+◌, ◌^◌, ◌<◌, ◌≤◌, Bool, false, ◌==◌, nat_le, List, [], length, map, take, get_or, count_by, sum_by, slice_get, All, AllPairs, Option, Some, None}
 use Rattle.std.specs.List.{range_with_len}
 use Rattle.std.specs.Option.{option_map_or}
-use Rattle.air_base.specs.declared.limits.TheConstants.{MOST_REPLANS}
+use Rattle.air_base.specs.declared.limits.TheConstants.{MOST_CYCLES, MOST_REPLANS}
 use Rattle.air_history.specs.declared.histories.Event.{Event}
 use Rattle.air_history.specs.declared.histories.Event.TheVariants.{Commit, Start}
 use Rattle.air_history.specs.UpdateLists.{UpdateLists}
@@ -137,14 +137,9 @@ pub record IsQuery (n : ℕ) (items : List ℕ) : Type 0 where
   pub distinct : has_repeat items ≡ false
   pub within : All (λ i. i < n) items
 
--- A deck is plain where it has no replan.
-abbrev pub IsPlain : Deck → Type 0
-IsPlain deck = deck.replans ≡ []
-
 -- A deck is well made where it has items, as many as its version takes at most, with values of 64 bits, the disks of each edition take all of
--- them, each disk is aired, replans are few and come in force one after another, from cycle 2 on, and updates, readers, queries and script
--- are right.
--- So far each such deck is plain.
+-- them, each disk is aired, replans are few and come into force one after another, from cycle 2 on and within the cycles of the longest run,
+-- and updates, readers, queries and script are right.
 pub record IsDeck (deck : Deck) : Type 0 where
   pub some : 0 < length deck.items
   pub version : (deck.settings.version ≡ 1) ⊎ (deck.settings.version ≡ 2)
@@ -154,10 +149,10 @@ pub record IsDeck (deck : Deck) : Type 0 where
   pub aired : (e : ℕ) → e < count_editions deck → All (λ d. (0 < d.size) × (0 < d.freq)) (specs_in deck e)
   pub few : length deck.replans ≤ MOST_REPLANS
   pub from_two : All (λ r. 2 ≤ r.cycle) deck.replans
+  pub within_a_run : All (λ r. r.cycle ≤ MOST_CYCLES) deck.replans
   pub rising : AllPairs (λ a b. a.cycle < b.cycle) deck.replans
   pub updates : All (All (IsUpdate (length deck.items))) deck.updates
   pub readers : length deck.queries ≡ length deck.readers
   pub tries : All (λ r. 1 ≤ r.tries) deck.readers
   pub queries : All (All (IsQuery (length deck.items))) deck.queries
   pub script : ScriptFits deck
-  pub plain : IsPlain deck

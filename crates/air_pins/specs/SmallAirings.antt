@@ -13,15 +13,15 @@ two_item_board = record {
   vector = 1 ∷ 1 ∷ [];
 }
 
--- A bucket of this version and cycle 2.
-abbrev pub in_cycle_2 : ℕ → ℕ → Body → Bucket
-in_cycle_2 version slot body = record { version = version; edition = 0; cycle = 2; slot = slot; body = body }
+-- A bucket of this version and edition, and of cycle 2.
+abbrev pub in_cycle_2 : ℕ → ℕ → ℕ → Body → Bucket
+in_cycle_2 version edition slot body = record { version = version; edition = edition; cycle = 2; slot = slot; body = body }
 
--- The buckets of this version of its cycle where item 0 comes twice, item 1 once, and one slot is idle.
-abbrev pub four_buckets : ℕ → List (List ℕ)
-four_buckets version = map spelling (
-    in_cycle_2 version 0 (Column 0 11 (1 ∷ 0 ∷ [])) ∷ in_cycle_2 version 1 (Column 1 12 (1 ∷ 1 ∷ [])) ∷ in_cycle_2 version 2 (Column 0 11 (1 ∷ 0 ∷ []))
-    ∷ in_cycle_2 version 3 (Idle 2) ∷ [])
+-- The buckets of this version and edition of its cycle where item 0 comes twice, item 1 once, and one slot is idle.
+abbrev pub four_buckets : ℕ → ℕ → List (List ℕ)
+four_buckets version edition = map spelling (
+    in_cycle_2 version edition 0 (Column 0 11 (1 ∷ 0 ∷ [])) ∷ in_cycle_2 version edition 1 (Column 1 12 (1 ∷ 1 ∷ [])) ∷ in_cycle_2 version edition 2 (Column 0 11 (1 ∷ 0 ∷ []))
+    ∷ in_cycle_2 version edition 3 (Idle 2) ∷ [])
 
 -- These were sent, and no end.
 abbrev pub sent : List (List ℕ) → SentBuckets

@@ -1,19 +1,19 @@
 //! These pins of `air_sender` say what a cycle of four slots sends, to any mast and to one that gathers a tape.
 //!
-//! The program's slots carry the items 0, 1, 0 and none; the board is in cycle 2.
+//! The program's slots carry the items 0, 1, 0 and none, and from a replan on the items 0 and 1; the board is in cycle 2.
 #![tactic(auto, unfolding(air_model::specs::Disks::all_items, air_model::specs::Programs::least_common_multiple, air_model::specs::Programs::num_minors, air_model::specs::Programs::num_chunks, air_model::specs::Programs::chunk_len, air_model::specs::Programs::chunk, air_model::specs::Programs::minor_cycle, air_model::specs::Programs::program, air_model::specs::Tapes::record_bytes, air_model::specs::Tapes::tape_of, air_sender::specs::BoardBuckets::body_on, air_sender::specs::BoardBuckets::bucket_on, air_model::specs::Buckets::capped_body, air_model::specs::Buckets::capped_entries, air_history::specs::Ages::capped))]
 
-ghost use Rattle.std.specs.Prelude.{◌≡◌, ◌<◌, ◌≤◌, [], codes, length, take, Some, None, IsErr, IfErr, OnOk};
+ghost use Rattle.std.specs.Prelude.{◌∷◌, ◌≡◌, ◌<◌, ◌≤◌, [], codes, length, take, Some, None, IsErr, IfErr, OnOk};
 ghost use Rattle.air_devices.specs.Masts.{fresh_mast};
 ghost use Rattle.air_sender.specs.AirFaults.{failed_slot};
 ghost use Rattle.air_sender.specs.TapeMasts.{tape_mast_state};
-ghost use Rattle.air_pins.specs.SmallPrograms.{idle_slot};
+ghost use Rattle.air_pins.specs.SmallPrograms.{idle_slot, in_edition, two_slots};
 ghost use Rattle.air_pins.specs.SmallAirings.{two_item_board, four_buckets, sent};
 
 use air_base::{Form, Policy};
 use air_devices::{Failed, Mast};
 use air_sender::{AirFault, TapeMast, air_cycle, tape_bytes};
-use chunk_program::Program;
+use chunk_program::{Plans, Program};
 use control_matrix::Board;
 
 /// Control columns, with their entries in full.
@@ -37,11 +37,11 @@ pub fn column_of_another_item(
     mast: &mut TapeMast,
     buf: &mut [u8],
 ) -> Result<(), AirFault>
-    requires program { program.now ≡ idle_slot }
+    requires program { program.now ≡ in_edition 0 idle_slot }
     requires board { board.now ≡ two_item_board }
     requires mast { tape_mast_state mast.old ≡ fresh_mast }
     requires room { 32 ≤ length buf.old }
-    ensures { OnOk result (tape_mast_state mast.new ≡ record { told = Some (sent (four_buckets 1)); faults = 0; port = None }) }
+    ensures { OnOk result (tape_mast_state mast.new ≡ record { told = Some (sent (four_buckets 1 0)); faults = 0; port = None }) }
 {
     air_cycle(program, board, COLUMNS, mast, buf)
 }
@@ -53,11 +53,11 @@ pub fn version_1_whatever_the_form(
     mast: &mut TapeMast,
     buf: &mut [u8],
 ) -> Result<(), AirFault>
-    requires program { program.now ≡ idle_slot }
+    requires program { program.now ≡ in_edition 0 idle_slot }
     requires board { board.now ≡ two_item_board }
     requires mast { tape_mast_state mast.old ≡ fresh_mast }
     requires room { 26 ≤ length buf.old }
-    ensures { OnOk result (tape_mast_state mast.new ≡ record { told = Some (sent (four_buckets 2)); faults = 0; port = None }) }
+    ensures { OnOk result (tape_mast_state mast.new ≡ record { told = Some (sent (four_buckets 2 0)); faults = 0; port = None }) }
 {
     air_cycle(program, board, AGES, mast, buf)
 }
@@ -70,31 +70,67 @@ pub fn next_slot_blamed_after_a_second_try<M: Mast>(
     mast: &mut M,
     buf: &mut [u8],
 ) -> Result<(), AirFault>
-    requires program { program.now ≡ idle_slot }
+    requires program { program.now ≡ in_edition 0 idle_slot }
     requires board { board.now ≡ two_item_board }
     requires mast { M.state mast.old ≡ fresh_mast }
     requires room { 32 ≤ length buf.old }
     ensures within { IfErr result (λ fault. failed_slot fault < 4) }
-    ensures fault { IfErr result (λ fault. (just_before : M) × (M.state just_before ≡ record { told = Some (sent (take (failed_slot fault) (four_buckets 1))); faults = 0; port = None }) ×
+    ensures fault { IfErr result (λ fault. (just_before : M) × (M.state just_before ≡ record { told = Some (sent (take (failed_slot fault) (four_buckets 1 0))); faults = 0; port = None }) ×
         (0 < (M.state mast.new).faults) × ((M.state mast.new).told ≡ (M.state just_before).told)) }
 {
     air_cycle(program, board, COLUMNS, mast, buf)
 }
 
+/// Each bucket has the program's edition.
+pub fn edition_0_in_every_bucket(
+    program: &Program,
+    board: &Board,
+    mast: &mut TapeMast,
+    buf: &mut [u8],
+) -> Result<(), AirFault>
+    requires program { program.now ≡ in_edition 1 idle_slot }
+    requires board { board.now ≡ two_item_board }
+    requires mast { tape_mast_state mast.old ≡ fresh_mast }
+    requires room { 32 ≤ length buf.old }
+    ensures { OnOk result (tape_mast_state mast.new ≡ record { told = Some (sent (four_buckets 1 1)); faults = 0; port = None }) }
+{
+    air_cycle(program, board, COLUMNS, mast, buf)
+}
+
 /// A record takes the bytes of its length too: 36 with an item, 28 without one.
-pub fn record_size_without_its_length(program: &Program) -> u64
-    requires { program.now ≡ idle_slot }
+pub fn record_size_without_its_length(plans: &Plans) -> u64
+    requires replans { plans.now.replans ≡ [] }
+    requires programs { plans.now.programs ≡ in_edition 0 idle_slot ∷ [] }
     ensures { result ≡ 408 }
 {
-    tape_bytes(program, 2, 3, COLUMNS)
+    tape_bytes(plans, 2, 3, COLUMNS)
 }
 
 /// In version 2 an entry takes one byte: a record has 30 with an item.
-pub fn four_bytes_for_an_age(program: &Program) -> u64
-    requires { program.now ≡ idle_slot }
+pub fn four_bytes_for_an_age(plans: &Plans) -> u64
+    requires replans { plans.now.replans ≡ [] }
+    requires programs { plans.now.programs ≡ in_edition 0 idle_slot ∷ [] }
     ensures { result ≡ 354 }
 {
-    tape_bytes(program, 2, 3, AGES)
+    tape_bytes(plans, 2, 3, AGES)
+}
+
+/// A cycle has the records of the edition in force: the first has 136 bytes, the two after the replan 72 each.
+pub fn length_by_the_first_edition_alone(plans: &Plans) -> u64
+    requires replans { plans.now.replans ≡ 2 ∷ [] }
+    requires programs { plans.now.programs ≡ in_edition 0 idle_slot ∷ in_edition 1 two_slots ∷ [] }
+    ensures { result ≡ 280 }
+{
+    tape_bytes(plans, 2, 3, COLUMNS)
+}
+
+/// A replan after the cycles that are aired doesn't change the length.
+pub fn length_with_a_replan_that_no_cycle_reaches(plans: &Plans) -> u64
+    requires replans { plans.now.replans ≡ 4 ∷ [] }
+    requires programs { plans.now.programs ≡ in_edition 0 idle_slot ∷ in_edition 1 two_slots ∷ [] }
+    ensures { result ≡ 408 }
+{
+    tape_bytes(plans, 2, 3, COLUMNS)
 }
 
 /// A bucket whose record has no room is refused.

@@ -18,7 +18,7 @@ use Rattle.air_history.specs.Tables.{table, values_of}
 use Rattle.air_base.specs.declared.verdicts.Form.{Form}
 use Rattle.air_model.specs.Buckets.{Bucket, most_count, spelling}
 use Rattle.air_model.specs.Aired.{Air, air_of, bucket_of, buckets_of, edition_at, slots_at}
-use Rattle.air_model.specs.Decks.{Deck, IsDeck, disks_in, values_in}
+use Rattle.air_model.specs.Decks.{Deck, IsDeck, disks_in, edition, values_in}
 use Rattle.air_model.specs.Disks.{Disk}
 use Rattle.air_model.specs.Programs.{program}
 use Rattle.air_sender.specs.BoardBuckets.{board_buckets, board_bytes, form_of}
@@ -26,7 +26,8 @@ use Rattle.air_sender.proofs.StartedBoards.{OwnCycleLaw}
 use Rattle.air_devices.specs.Masts.{SentBuckets}
 use Rattle.air_sender.specs.AiredBytes.{aired_bytes}
 use Rattle.air_model.proofs.DeckLemmas.{air}
-use Rattle.air_model.proofs.EditionLemmas.{edition_is, one_edition, plain_slots}
+use Rattle.air_model.proofs.EditionLemmas.{edition_is, slots_are}
+use Rattle.chunk_program.specs.Editions.{EditionDisks, edition_disks}
 use Rattle.air_model.proofs.LaterLemmas.{later}
 
 -- ---- histories
@@ -49,7 +50,8 @@ pub starts_start : (G : List Event) → starts (G ++ Start ∷ []) ≡ starts G 
 unfolding is_start
 starts_start G = starts_more G Start
 
-range_more : (a n : ℕ) → range_with_len a (suc n) ≡ range_with_len a n ++ (a + n) ∷ []
+-- One number more at the end of a range.
+pub range_more : (a n : ℕ) → range_with_len a (suc n) ≡ range_with_len a n ++ (a + n) ∷ []
 range_more a zero = let same : a ≡ a + 0 = omega arith in ap (λ k. k ∷ []) same
 range_more a (suc n) = let same : a + 1 + n ≡ a + suc n = omega arith in ap (λ l. a ∷ l) (range_more (a + 1) n ∙ ap (λ k. range_with_len (a + 1) n ++ k ∷ []) same)
 
@@ -120,27 +122,30 @@ module _ (deck : Deck) (G : List Event) (e : Event) (board : Board) (is : board 
   pub board_started : is_start e ≡ true → 1 ≤ board.cycle
   board_started start = let cycle : board.cycle ≡ starts G + 1 = ap (λ (b : Board). b.cycle) (started_board start) ∙ starts_start G in omega arith
 
-  -- a deck without replans airs in edition 0
-  own_edition : IsDeck deck → (c : ℕ) → 0 ≡ edition_at (air_of deck) c
-  own_edition made c = sym (edition_is deck c ∙ one_edition deck c made.plain)
+  -- the edition in force in the board's cycle, and its slots
+  own_edition : (e c : ℕ) → e ≡ edition deck c → e ≡ edition_at (air_of deck) c
+  own_edition e c is = is ∙ sym (edition_is deck c)
 
-  own_slots : IsDeck deck → (disks : List Disk) (c : ℕ) → disks ≡ disks_in deck 0 → program disks ≡ slots_at (air_of deck) c
-  own_slots made disks c d = ap program d ∙ sym (plain_slots deck c made.plain)
+  own_slots : (disks : List Disk) (c : ℕ) → disks ≡ disks_in deck (edition deck c) → program disks ≡ slots_at (air_of deck) c
+  own_slots disks c d = ap program d ∙ sym (slots_are deck c)
 
   -- what the board airs is the new cycle of the history
-  pub start_aired : OwnCycleLaw → IsDeck deck → is_start e ≡ true → (form : Form) (disks : List Disk) (before after : List (List ℕ)) → form ≡ form_of (air_of deck) → disks ≡ disks_in deck 0
-      → before ≡ aired_bytes deck G → after ≡ before ++ board_bytes form 0 (program disks) board → after ≡ aired_bytes deck (G ++ e ∷ [])
-  start_aired own made start form disks before after p d so_far grew =
+  pub start_aired : OwnCycleLaw → IsDeck deck → is_start e ≡ true → (form : Form) (p : EditionDisks) (before after : List (List ℕ)) → form ≡ form_of (air_of deck) → p ≡ edition_disks deck (edition deck board.cycle)
+      → before ≡ aired_bytes deck G → after ≡ before ++ board_bytes form p.edition (program p.disks) board → after ≡ aired_bytes deck (G ++ e ∷ [])
+  start_aired own made start form p before after f d so_far grew =
       let values = values_in deck in
       let a = air_of deck in
       let new = G ++ Start ∷ [] in
       let c = starts new in
-      let slots = program disks in
-      let cycle : board_buckets form 0 slots board ≡ buckets_in values a new c =
-      ap (λ form. board_buckets form 0 slots board) p ∙ ap (λ e. board_buckets (form_of a) e slots board) (own_edition made c)
-      ∙ ap (λ xs. board_buckets (form_of a) (edition_at a c) xs board) (own_slots made disks c d) ∙ ap (board_buckets (form_of a) (edition_at a c) (slots_at a c)) (started_board start)
+      let slots = program p.disks in
+      let now : board.cycle ≡ c = ap (λ (b : Board). b.cycle) (started_board start) in
+      let disks : p.disks ≡ disks_in deck (edition deck c) = ap (λ (p : EditionDisks). p.disks) d ∙ ap (λ n. disks_in deck (edition deck n)) now in
+      let number : p.edition ≡ edition deck c = ap (λ (p : EditionDisks). p.edition) d ∙ ap (edition deck) now in
+      let cycle : board_buckets form p.edition slots board ≡ buckets_in values a new c =
+      ap (λ form. board_buckets form p.edition slots board) f ∙ ap (λ e. board_buckets (form_of a) e slots board) (own_edition p.edition c number)
+      ∙ ap (λ xs. board_buckets (form_of a) (edition_at a c) xs board) (own_slots p.disks c disks) ∙ ap (board_buckets (form_of a) (edition_at a c) (slots_at a c)) (started_board start)
       ∙ own values a G (sym (length-map deck.items (λ i. i.value))) ((air deck made).0) in
-      grew ∙ ap (λ l. l ++ board_bytes form 0 slots board) so_far ∙ ap (λ l. aired_bytes deck G ++ map spelling l) cycle
+      grew ∙ ap (λ l. l ++ board_bytes form p.edition slots board) so_far ∙ ap (λ l. aired_bytes deck G ++ map spelling l) cycle
       ∙ sym (map-append spelling (buckets_of values a G) (buckets_in values a new (starts new))) ∙ ap (map spelling) (sym (buckets_start values a G))
       ∙ ap (λ e. aired_bytes deck (G ++ e ∷ [])) (sym (start_event e start))
 

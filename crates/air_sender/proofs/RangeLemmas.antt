@@ -33,10 +33,10 @@ placed_told : (v c : ℕ) (y : Body) → (kind_of y ≡ 0) ⊎ (item_of y < coun
 placed_told v c y (inl idle) = inl (kind_kept v c y ∙ idle)
 placed_told v c y (inr below) = let item = item_kept v c y in let count = count_kept v c y in inr (omega arith)
 
-told_range : (v c s : ℕ) (y : Body) → (v ≡ 1) ⊎ (v ≡ 2) → 1 ≤ c → c < 2 ^ 32 → s < 2 ^ 16 → BodyFits v c y → IsInRange (capped_bucket (record { version = v; edition = 0; cycle = c; slot = s; body = y }))
-told_range v c s y known one wide slot body = record {
+told_range : (v e c s : ℕ) (y : Body) → (v ≡ 1) ⊎ (v ≡ 2) → e < 2 ^ 16 → 1 ≤ c → c < 2 ^ 32 → s < 2 ^ 16 → BodyFits v c y → IsInRange (capped_bucket (record { version = v; edition = e; cycle = c; slot = s; body = y }))
+told_range v e c s y known few one wide slot body = record {
   version = known;
-  edition = omega arith;
+  edition = few;
   some = subst (λ n. 1 ≤ n) (sym (count_kept v c y)) body.some;
   count = subst (λ n. n ≤ most_count v) (sym (count_kept v c y)) body.count;
   started = one;
@@ -49,11 +49,11 @@ told_range v c s y known one wide slot body = record {
 }
 
 -- An idle bucket.
-pub idle_range : (v c s n : ℕ) → (v ≡ 1) ⊎ (v ≡ 2) → 1 ≤ c → c < 2 ^ 32 → s < 2 ^ 16 → 1 ≤ n → n ≤ most_count v
-    → IsInRange (capped_bucket (record { version = v; edition = 0; cycle = c; slot = s; body = Idle n }))
+pub idle_range : (v e c s n : ℕ) → (v ≡ 1) ⊎ (v ≡ 2) → e < 2 ^ 16 → 1 ≤ c → c < 2 ^ 32 → s < 2 ^ 16 → 1 ≤ n → n ≤ most_count v
+    → IsInRange (capped_bucket (record { version = v; edition = e; cycle = c; slot = s; body = Idle n }))
 unfolding count_of entries_of item_of kind_of value_of
-idle_range v c s n known one wide slot some few =
-    told_range v c s (Idle n) known one wide slot (record { some = some; count = few; placed = inl refl; value = omega arith; entries = All-nil _ })
+idle_range v e c s n known low one wide slot some few =
+    told_range v e c s (Idle n) known low one wide slot (record { some = some; count = few; placed = inl refl; value = omega arith; entries = All-nil _ })
 
 -- The bucket of an item under any policy.
 item_fits : (by : Policy) (v c i value : ℕ) (es : List ℕ) → i < length es → length es ≤ most_count v → value < 2 ^ 64 → All (λ e. e < c) es → BodyFits v c (aired_as by i value es)
@@ -62,9 +62,9 @@ item_fits FMatrix v c i value es within few wide below = record { some = omega a
 item_fits Datacycle v c i value es within few wide below = record { some = omega arith; count = few; placed = inr within; value = wide; entries = below }
 item_fits RMatrix v c i value es within few wide below = record { some = omega arith; count = few; placed = inr within; value = wide; entries = below }
 
-pub aired_range : (by : Policy) (v c s i value : ℕ) (es : List ℕ) → (v ≡ 1) ⊎ (v ≡ 2) → 1 ≤ c → c < 2 ^ 32 → s < 2 ^ 16 → i < length es → length es ≤ most_count v → value < 2 ^ 64
-    → All (λ e. e < c) es → IsInRange (capped_bucket (record { version = v; edition = 0; cycle = c; slot = s; body = aired_as by i value es }))
-aired_range by v c s i value es known one wide slot within few low below = told_range v c s (aired_as by i value es) known one wide slot (item_fits by v c i value es within few low below)
+pub aired_range : (by : Policy) (v e c s i value : ℕ) (es : List ℕ) → (v ≡ 1) ⊎ (v ≡ 2) → e < 2 ^ 16 → 1 ≤ c → c < 2 ^ 32 → s < 2 ^ 16 → i < length es → length es ≤ most_count v → value < 2 ^ 64
+    → All (λ e. e < c) es → IsInRange (capped_bucket (record { version = v; edition = e; cycle = c; slot = s; body = aired_as by i value es }))
+aired_range by v e c s i value es known small one wide slot within few low below = told_range v e c s (aired_as by i value es) known small one wide slot (item_fits by v c i value es within few low below)
 
 -- Its entries are below the board's cycle, where the board can air it.
 pub aired_below : (by : Policy) (board : Board) (i : ℕ) → EntriesBelow board → All (λ e. e < board.cycle) (entries_on by board i)

@@ -14,7 +14,7 @@ use Rattle.air_history.specs.declared.histories.Event.TheVariants.{Start}
 use Rattle.air_history.specs.Boards.{Board, board_of}
 use Rattle.air_history.specs.Tables.{table, values_of}
 use Rattle.air_history.specs.Histories.{starts}
-use Rattle.air_model.specs.Buckets.{Bucket, capped_bucket, spelling}
+use Rattle.air_model.specs.Buckets.{Body, Bucket, capped_bucket, spelling}
 use Rattle.air_model.specs.Aired.{Air, edition_at, slots_at}
 use Rattle.air_devices.specs.Masts.{Changes, MastState, SentBuckets, with_buckets}
 use Rattle.air_sender.specs.AirFaults.{IsAirAnswer, failed_slot}
@@ -64,6 +64,11 @@ pub bucket_is : (form : Form) (e : ℕ) (slots : List (Option ℕ)) (board : Boa
 unfolding bucket_on
 bucket_is form e slots board s o b at is =
     ap capped_bucket (is ∙ ap (λ (o : Option ℕ). let b : Bucket = record { version = form.version; edition = e; cycle = board.cycle; slot = s; body = body_on form.policy board o } in b) at)
+
+-- A bucket's edition by what is equal to it.
+pub bucket_edition : (version e own cycle slot : ℕ) (y : Body) (b : Bucket) → e ≡ own → b ≡ record { version = version; edition = e; cycle = cycle; slot = slot; body = y }
+    → b ≡ record { version = version; edition = own; cycle = cycle; slot = slot; body = y }
+bucket_edition version e own cycle slot y b same is = is ∙ ap (λ k. let b : Bucket = record { version = version; edition = k; cycle = cycle; slot = slot; body = y } in b) same
 
 -- The bytes that were written at the front of the buffer.
 pub front_is : (b : Bucket) (n : ℕ) (out rest : List ℕ) → n ≡ length (spelling b) → out ≡ spelling (capped_bucket b) ++ rest → take n out ≡ spelling (capped_bucket b)

@@ -3,6 +3,7 @@ use Rattle.std.proofs.Common.{◌≡◌, ℕ, ◌+◌, ◌*◌, ◌<◌, ◌≤�
 use Rattle.std.specs.List.{flat_map, range_with_len}
 use Rattle.std.proofs.lemmas.List.{map-append}
 use Rattle.std.proofs.lemmas.List.Elements.{All-append, All-cons, All-map, All-nil}
+use Rattle.std.proofs.lemmas.List.FromFn.{get_or-map-range_with_len, length-map-range_with_len}
 use Rattle.std.proofs.lemmas.Simd.{map-map}
 use Rattle.air_base.specs.declared.verdicts.Policy.{Policy}
 use Rattle.air_base.specs.declared.verdicts.Policy.TheVariants.{FMatrix, Datacycle, RMatrix}
@@ -15,11 +16,11 @@ use Rattle.air_history.proofs.ScanLemmas.{starts_within}
 use Rattle.air_model.specs.Aired.{Air, aired_as, air_of, body_of, bucket_of, buckets_of, cycle_buckets, edition_at, history_tape, slots_at}
 use Rattle.air_model.specs.AiredLaws.{CanAir}
 use Rattle.air_model.specs.Buckets.{Bucket, capped_bucket, entries_of, entry_len, spelling}
-use Rattle.air_model.specs.Decks.{Deck, IsDeck, disks_in, script_history, values_in}
+use Rattle.air_model.specs.Decks.{Deck, IsDeck, count_editions, disks_in, script_history, values_in}
 use Rattle.air_model.specs.Programs.{program}
 use Rattle.air_model.specs.Tapes.{tape_of, tape_read}
 use Rattle.air_model.proofs.AiredLemmas.{entries_long}
-use Rattle.air_model.proofs.EditionLemmas.{plain_air}
+use Rattle.chunk_program.specs.Plans.{AreShort}
 use Rattle.air_model.proofs.ScriptLemmas.{script}
 use Rattle.air_model.proofs.TapeLemmas.{length_record, whole_read}
 use Rattle.air_sender.proofs.RangeLemmas.{spelling_within, told_length}
@@ -43,19 +44,21 @@ tape_back deck H tape same few =
     let long = ap length same in
     ap tape_read same ∙ whole_read rs (length (tape_of rs)) 0 (short_records rs (omega arith)) (omega arith)
 
--- A plain deck has one program, so where that isn't too long no edition's is.
-pub slots_short : (deck : Deck) → IsDeck deck → length (program (disks_in deck 0)) ≤ 16384 → All (λ slots. length slots ≤ 2 ^ 16) ((air_of deck).slots)
-slots_short deck made few =
-    subst (λ (air : Air). All (λ (slots : List (Option ℕ)). length slots ≤ 2 ^ 16) air.slots) (sym (plain_air deck made.plain))
-    (All-cons (λ (slots : List (Option ℕ)). length slots ≤ 2 ^ 16) (program (disks_in deck 0)) [] (omega arith) (All-nil _))
+-- Where no edition is too long each list of slots is short.
+pub slots_short : (deck : Deck) → AreShort deck → All (λ slots. length slots ≤ 2 ^ 16) ((air_of deck).slots)
+slots_short deck short e d below =
+    let n = count_editions deck in
+    let slots : ℕ → List (Option ℕ) = λ e. program (disks_in deck e) in
+    let within : e < n = (let all = length-map-range_with_len slots 0 n in omega arith) in
+    subst (λ (l : List (Option ℕ)). length l ≤ 2 ^ 16) (sym (get_or-map-range_with_len slots 0 n e e d within (omega arith))) (let few = short e within in omega arith)
 
 -- A deck's script can be aired with it.
-pub script_airs : (deck : Deck) → IsDeck deck → length deck.script ≤ 200000 → length (program (disks_in deck 0)) ≤ 16384 → CanAir deck (script_history deck)
-script_airs deck made few slots = record {
+pub script_airs : (deck : Deck) → IsDeck deck → length deck.script ≤ 200000 → AreShort deck → CanAir deck (script_history deck)
+script_airs deck made few short = record {
   made = made;
   legal = script deck made.script;
   cycles = (let most = starts_within (script_history deck) in let long = script_length deck in omega arith);
-  slots = slots_short deck made slots;
+  slots = slots_short deck short;
 }
 
 -- ---- the records

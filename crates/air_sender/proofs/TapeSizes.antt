@@ -1,16 +1,16 @@
--- How long the tape of the script of a deck without replans is: it has the bytes of a cycle's records for each start of the script.
-use Rattle.std.proofs.Common.{◌≡◌, ℕ, ◌*◌, ◌<◌, cond, Option, Some, None, List, [], length, map, take, get_or, refl, sym, ap, ◌∙◌, arith}
+-- How long the tape of a deck's script is: it has the bytes of a cycle's records for each start of the script.
+use Rattle.std.proofs.Common.{◌≡◌, ℕ, ◌<◌, cond, Option, Some, None, List, [], length, map, take, get_or, refl, sym, ap, ◌∙◌, arith}
 use Rattle.std.specs.Prelude.{sum}
 use Rattle.std.proofs.lemmas.List.{get_or-map, length-map, same_lists}
 use Rattle.std.proofs.lemmas.List.Sums.{sum-map}
 use Rattle.air_history.specs.declared.histories.Event.{Event}
 use Rattle.air_history.specs.declared.histories.Event.TheVariants.{Start}
 use Rattle.air_history.specs.Histories.{is_start, starts}
-use Rattle.air_model.specs.Decks.{Deck, disks_in, event_of, script_history}
+use Rattle.air_model.specs.Aired.{air_of, slots_at}
+use Rattle.air_model.specs.Decks.{Deck, event_of, script_history, values_in}
 use Rattle.air_model.specs.Outputs.{script_tape}
-use Rattle.air_model.specs.Programs.{program}
-use Rattle.air_sender.specs.TapeSizes.{cycle_size}
-use Rattle.air_sender.proofs.TapeLengths.{plain_size}
+use Rattle.air_sender.specs.TapeSizes.{tape_size}
+use Rattle.air_sender.proofs.TapeLengths.{history_size}
 use Rattle.item_catalog.specs.DeckLimits.{is_start_part, script_starts}
 use Rattle.air_sender.proofs.RunLoops.{event_there, script_length}
 
@@ -45,6 +45,6 @@ starts_script d = sym (sum-map of_event H) ∙ ap sum same ∙ sum-map of_part d
     same = same_lists (map of_event H) (map of_part d.script) (length-map H of_event ∙ script_length d ∙ sym (length-map d.script of_part))
         (λ k e below. at k e (omega (arith, length-map H of_event, script_length d)))
 
-pub length-script_tape : (d : Deck) → d.replans ≡ [] → length (script_tape d) ≡ script_starts d * cycle_size d.settings.version (length d.items) (program (disks_in d 0))
-length-script_tape d plain =
-    plain_size d plain (script_history d) ∙ ap (λ n. n * cycle_size d.settings.version (length d.items) (program (disks_in d 0))) (starts_script d)
+pub length-script_tape : (d : Deck) → length (script_tape d) ≡ tape_size d.settings.version (length d.items) (slots_at (air_of d)) (script_starts d)
+length-script_tape d =
+    history_size (values_in d) (air_of d) (script_history d) ∙ ap (tape_size d.settings.version (length d.items) (slots_at (air_of d))) (starts_script d)

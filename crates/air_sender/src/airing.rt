@@ -12,16 +12,17 @@ ghost use Rattle.air_model.specs.Buckets.{entry_len, most_count, spelling};
 ghost use Rattle.air_model.specs.Aired.{Air};
 ghost use Rattle.air_devices.specs.Counts.{HasCause};
 ghost use Rattle.air_devices.specs.Masts.{Changes, with_buckets};
+ghost use Rattle.chunk_program.specs.Editions.{HaveItems, planned_slots};
 ghost use Rattle.air_sender.specs.BoardBuckets.{EntriesBelow, IsLastBoard, board_bytes, bucket_on, last_bytes};
 ghost use Rattle.air_sender.specs.AirFaults.{IsAirAnswer, SendsUpToFault};
-ghost use Rattle.air_sender.specs.TapeSizes.{cycle_size};
+ghost use Rattle.air_sender.specs.TapeSizes.{cycle_size, tape_size};
 
 use crate::buckets::slot_bucket;
 use air_base::Form;
 use air_devices::{Failed, Mast};
 use bucket_codec::offsets::{ENTRY_BYTES, HEAD_BYTES, LENGTH_BYTES};
 use bucket_codec::{encode, entry_size};
-use chunk_program::Program;
+use chunk_program::{Plans, Program};
 use control_matrix::Board;
 
 /// The bytes of a slot's record before its entries.
@@ -36,8 +37,9 @@ pub enum AirFault {
 }
 
 /// Sends the bucket of each slot in order for the board's cycle. `Board::new` and `Board::apply` tell whose board it is: where the last
-/// event was a start its cycle has started, and by `below_law` of `board_laws` its entries are below it. `Program::plan` tells that the program has
-/// the deck's items, as many as `Board::new` got values, and `Board::n` how many entries the buffer is for; `entry_size` tells the bytes of each.
+/// event was a start its cycle has started, and by `below_law` of `board_laws` its entries are below it. `Plans::in_force` lends the program
+/// of a cycle: that it is the board's cycle no call tests here. It has the deck's items, as many as `Board::new` got values, and `Board::n`
+/// tells how many entries the buffer is for; `entry_size` tells the bytes of each.
 pub fn air_cycle<M: Mast>(
     program: &Program,
     board: &Board,
@@ -47,15 +49,15 @@ pub fn air_cycle<M: Mast>(
 ) -> Result<(), AirFault>
     requires started { 1 ≤ board.now.cycle }
     requires below { EntriesBelow board.now }
-    requires items { length (all_items program.now) ≡ length board.now.values }
+    requires items { length (all_items program.now.disks) ≡ length board.now.values }
     requires version { (form.version ≡ 1) ⊎ (form.version ≡ 2) }
     requires few { form.version ≡ 1 → length board.now.values ≤ MOST_FULL_ITEMS }
     requires room { HEAD_BYTES + entry_len form.version * length board.now.values ≤ length buf.old }
-    ensures aired { OnOk result (Changes (with_buckets (board_bytes form 0 (slots_of program.now) board.now)) (M.state mast.old).told (M.state mast.new).told) }
-    ensures history { (values : List ℕ) (air : Air) (G : List Event) → IsLastBoard values air G form 0 (slots_of program.now) board.now →
+    ensures aired { OnOk result (Changes (with_buckets (board_bytes form program.now.edition (slots_of program.now.disks) board.now)) (M.state mast.old).told (M.state mast.new).told) }
+    ensures history { (values : List ℕ) (air : Air) (G : List Event) → IsLastBoard values air G form program.now.edition (slots_of program.now.disks) board.now →
         SendsUpToFault (last_bytes values air G) result (M.state mast.old).told (M.state mast.new).told }
     ensures calm { OnOk result ((M.state mast.new).faults ≡ (M.state mast.old).faults) }
-    ensures fault { IfErr result (IsAirAnswer M.state (board_bytes form 0 (slots_of program.now) board.now) mast.old mast.new) }
+    ensures fault { IfErr result (IsAirAnswer M.state (board_bytes form program.now.edition (slots_of program.now.disks) board.now) mast.old mast.new) }
     ensures port { (M.state mast.new).port ≡ (M.state mast.old).port }
     ensures buffer { length buf.new ≡ length buf.old }
 {
@@ -77,40 +79,53 @@ fn air_slot<M: Mast>(
     mast: &mut M,
     buf: &mut [u8],
 ) -> Result<(), Failed>
-    requires slot { slot < length (slots_of program.now) }
+    requires slot { slot < length (slots_of program.now.disks) }
     requires short { slot < MOST_SLOTS }
     requires version { (form.version ≡ 1) ⊎ (form.version ≡ 2) }
     requires few { length board.now.values ≤ most_count form.version }
     requires started { 1 ≤ board.now.cycle }
     requires below { EntriesBelow board.now }
-    requires items { length (all_items program.now) ≡ length board.now.values }
+    requires items { length (all_items program.now.disks) ≡ length board.now.values }
     requires room { HEAD_BYTES + entry_len form.version * length board.now.values ≤ length buf.old }
-    ensures sent { OnOk result (Changes (with_buckets (spelling (bucket_on form 0 (slots_of program.now) board.now slot) ∷ [])) (M.state mast.old).told (M.state mast.new).told) }
+    ensures sent { OnOk result (Changes (with_buckets (spelling (bucket_on form program.now.edition (slots_of program.now.disks) board.now slot) ∷ [])) (M.state mast.old).told (M.state mast.new).told) }
     ensures refused { OnErr result ((M.state mast.new).told ≡ (M.state mast.old).told) }
     ensures port { (M.state mast.new).port ≡ (M.state mast.old).port }
     ensures cause { HasCause (M.state mast.old).faults (M.state mast.new).faults result }
 {
-    let bucket = slot_bucket(board, form, slot, program.slot_item(slot));
+    let bucket = slot_bucket(
+        board,
+        form,
+        program.edition(),
+        slot,
+        program.slot_item(slot),
+    );
     let len = encode(&bucket, buf);
     mast.send(&buf[..len])
 }
 
-/// The exact length of the tape of so many cycles of the program in this form, where the deck has n items.
-pub fn tape_bytes(program: &Program, n: u16, cycles: u32, form: Form) -> u64
-    requires items { n ≡ length (all_items program.now) }
+/// The exact length of the tape of the first so many cycles in this form, where each edition has n items.
+pub fn tape_bytes(plans: &Plans, n: u16, cycles: u32, form: Form) -> u64
+    requires items { HaveItems n plans.now.programs }
     requires version { (form.version ≡ 1) ⊎ (form.version ≡ 2) }
-    ensures { result ≡ cycles * cycle_size form.version n (slots_of program.now) }
+    ensures { result ≡ tape_size form.version n (planned_slots plans.now) cycles }
 {
-    program.shows_well_made();
-    u64::from(cycles) * cycle_len(program, n, form.version)
+    let mut bytes = 0u64;
+    let mut done = 0u32;
+    for edition in 0..plans.editions() {
+        let end = plans.cycles_up_to(edition, cycles);
+        bytes += u64::from(end - done) * cycle_len(plans.program(edition), n, form.version);
+        done = end;
+    }
+    bytes
 }
 
-/// The length of the records of one cycle.
-fn cycle_len(program: &Program, n: u16, version: u8) -> u64
-    requires { n ≤ MOST_ITEMS }
-    ensures len { result ≡ cycle_size version n (slots_of program.now) }
+/// The length of the records of one cycle of a program with n items in this version.
+pub fn cycle_len(program: &Program, n: u16, version: u8) -> u64
+    requires { length (all_items program.now.disks) ≡ n }
+    ensures len { result ≡ cycle_size version n (slots_of program.now.disks) }
     ensures few { result ≤ (LENGTH_BYTES + HEAD_BYTES + ENTRY_BYTES * MOST_ITEMS) * MOST_SLOTS }
 {
+    program.shows_well_made();
     let entries = (entry_size(version) * usize::from(n)) as u64;
     let mut len = 0;
     for slot in 0..program.slots() {

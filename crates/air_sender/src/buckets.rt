@@ -1,4 +1,4 @@
-//! The bucket of a slot in the board's cycle: its entries are lent from the board, and nothing is copied.
+//! The bucket of a slot in the board's cycle and an edition: its entries are lent from the board, and nothing is copied.
 
 ghost use Rattle.std.specs.Prelude.{◌≡◌, ◌⊎◌, ◌<◌, ◌≤◌, ◌+◌, ◌*◌, ◌^◌, length, IfSome};
 ghost use Rattle.air_model.specs.Aired.{aired_as};
@@ -11,16 +11,22 @@ use air_base::{Form, Policy};
 use bucket_codec::{Body, Bucket};
 use control_matrix::Board;
 
-/// The bucket of a slot that has this item, or is idle.
+/// The bucket of a slot that has this item, or is idle, in this edition.
 #[tactic(auto, using(crate::proofs::RangeLemmas::spelling_long), unfolding(crate::specs::BoardBuckets::body_on, bucket_codec::specs::BucketsToAir::body_to_air))]
-pub fn slot_bucket<'a>(board: &'a Board, form: Form, slot: u32, item: Option<u16>) -> Bucket<'a>
+pub fn slot_bucket<'a>(
+    board: &'a Board,
+    form: Form,
+    edition: u16,
+    slot: u32,
+    item: Option<u16>,
+) -> Bucket<'a>
     requires within { IfSome item (λ i. i < length board.now.values) }
     requires slot { slot < 2 ^ 16 }
     requires version { (form.version ≡ 1) ⊎ (form.version ≡ 2) }
     requires few { length board.now.values ≤ most_count form.version }
     requires started { 1 ≤ board.now.cycle }
     requires below { EntriesBelow board.now }
-    ensures bucket { bucket_to_air result ≡ record { version = form.version; edition = 0; cycle = board.now.cycle; slot = slot; body = body_on form.policy board.now item } }
+    ensures bucket { bucket_to_air result ≡ record { version = form.version; edition = edition; cycle = board.now.cycle; slot = slot; body = body_on form.policy board.now item } }
     ensures range { IsInRange (capped_bucket (bucket_to_air result)) }
     ensures long { HEAD_BYTES ≤ length (spelling (bucket_to_air result)) }
     ensures sized { length (spelling (bucket_to_air result)) ≤ HEAD_BYTES + entry_len form.version * length board.now.values }
@@ -28,7 +34,6 @@ pub fn slot_bucket<'a>(board: &'a Board, form: Form, slot: u32, item: Option<u16
     let version = form.version;
     let cycle = board.cycle();
     let slot = slot as u16;
-    let edition = 0;
     let Some(item) = item else {
         let body = Body::Idle { count: board.n() };
         return Bucket {

@@ -12,7 +12,7 @@ mod forms;
 mod script_tapes;
 pub mod tape_mast;
 
-pub use airing::{AirFault, air_cycle, tape_bytes};
+pub use airing::{AirFault, air_cycle, cycle_len, tape_bytes};
 pub use board_laws::{below_law, own_cycle_law};
 pub use forms::{bucket_room, own_form};
 pub use script_tapes::tape_len;

@@ -13,5 +13,5 @@ pub fn tape_len(planned: &Planned) -> u64
 {
     let deck = planned.deck();
     let form = own_form(planned);
-    tape_bytes(planned.program(), deck.items(), deck.script_starts(), form)
+    tape_bytes(planned.plans(), deck.items(), deck.script_starts(), form)
 }

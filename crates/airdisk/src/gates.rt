@@ -4,6 +4,7 @@ use crate::plain_files::runnable_again;
 use air_base::NoMemory;
 use air_base::limits::MOST_UPDATERS;
 use air_devices::PacedGate;
+use chunk_program::Planned;
 use deck_runs::jobs::LOOKS;
 use item_catalog::Deck;
 use std::alloc::Global;
@@ -13,9 +14,19 @@ use std::time::{Clock, Duration};
 /// The nanoseconds of a second.
 const SECOND: u64 = 1_000_000_000;
 
-/// The time on air of all cycles of a deck, in nanoseconds: `slots` buckets a cycle, at `rate` buckets a second.
-fn time_on_air(deck: &Deck, slots: u32, rate: u32) -> u64 {
-    let buckets = u64::from(slots).saturating_mul(u64::from(deck.settings().cycles));
+/// How many buckets all cycles of a deck have, each by the program in force in it.
+fn buckets_of(planned: &Planned) -> u64 {
+    let plans = planned.plans();
+    let mut buckets = 0u64;
+    for cycle in 1..=planned.deck().settings().cycles {
+        let slots = plans.in_force(cycle).slots();
+        buckets = buckets.saturating_add(u64::from(slots));
+    }
+    buckets
+}
+
+/// The time on air of so many buckets, in nanoseconds, at `rate` buckets a second.
+fn time_on_air(buckets: u64, rate: u32) -> u64 {
     buckets.saturating_mul(SECOND / u64::from(rate.max(1)))
 }
 
@@ -52,7 +63,7 @@ pub fn gate_of<R: Files + Print + Clock + Clone + Drop>(
         return Ok(PacedGate::open(clock));
     };
     let deck = planned.deck();
-    let time = time_on_air(deck, planned.program().slots(), rate);
+    let time = time_on_air(buckets_of(&planned), rate);
     Ok(PacedGate::from_now(
         clock,
         waits_of(deck, time),

@@ -5,9 +5,11 @@
 //! file is looked into again only where it is a plain one. Where a note can't be made, there is none.
 
 mod audits;
+mod plans;
 mod systems;
 
 use crate::notes::audits::audit_note;
+use crate::notes::plans::plan_note;
 use crate::notes::systems::{air_failure_note, failure_note};
 use crate::plain_files::{deck_again, plain_size, read_again, tape_again};
 use air_base::NoMemory;
@@ -159,9 +161,7 @@ fn text_of<R: Files + Print + Drop>(
         Status::TooLong { bytes } => Ok(Some(format!(in alloc;
             "{deck}: its tape would have {bytes} bytes, and a tape may have {MOST_TAPE_BYTES}"
         )?)),
-        Status::PlanTooLong { slots } => Ok(Some(format!(in alloc;
-            "{deck}: its program would have {slots} slots, and a program may have {MOST_SLOTS}"
-        )?)),
+        Status::PlanTooLong { slots } => plan_note(rt, alloc, words, shelf, slots),
         _ => audit_note(rt, alloc, words, shelf, status),
     }
 }

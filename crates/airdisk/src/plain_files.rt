@@ -69,7 +69,7 @@ pub fn deck_again<R: Files + Print + Drop>(
     read_deck_file(alloc, shelf, name).ok()
 }
 
-/// A deck that is read from a plain file, with its program, or `None` if the deck can't be read or run.
+/// A deck that is read from a plain file, with its plans, or `None` if the deck can't be read or run.
 pub fn runnable_again<R: Files + Print + Drop>(
     rt: &R,
     alloc: Global,

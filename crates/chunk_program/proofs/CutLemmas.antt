@@ -1,13 +1,13 @@
 -- The cut of a deck has the deck's limits.
-use Rattle.std.proofs.Common.{◌≡◌, ◌≤◌, ◌<◌, ◌↔◌, ℕ, suc, Bool, true, false, List, [], ◌∷◌, length, drop, refl, sym, subst, ap, ◌∙◌, arith}
+use Rattle.std.proofs.Common.{◌≡◌, ◌≤◌, ◌<◌, ◌↔◌, ℕ, zero, suc, Bool, true, false, List, [], ◌∷◌, length, drop, refl, sym, subst, ap, ◌∙◌, arith}
 use Rattle.std.specs.Prelude.{if◌then◌else◌}
 use Rattle.std.specs.List.{All, Contains}
 use Rattle.std.proofs.lemmas.List.Elements.{All-cons, All-head, All-tail, All-weaker}
 use Rattle.std.proofs.lemmas.List.{length-map}
-use Rattle.air_base.specs.declared.limits.TheConstants.{MOST_FULL_ITEMS, MOST_ITEMS}
+use Rattle.air_base.specs.declared.limits.TheConstants.{MOST_DISKS, MOST_FULL_ITEMS, MOST_ITEMS}
 use Rattle.air_model.specs.Buckets.{has_ages}
 use Rattle.air_model.specs.Disks.{Disk, DiskSpec, all_items, cut, order}
-use Rattle.air_model.specs.Decks.{Deck, IsDeck, Item, disks_in, rates_in}
+use Rattle.air_model.specs.Decks.{Deck, IsDeck, Item, count_editions, disks_in, no_replan, rates_in, specs_in}
 use Rattle.air_model.proofs.ItemOrder.{cut_airable, cut_items, length-order, order_only}
 use Rattle.item_catalog.specs.DeckLimits.{DiskWithin, WithinLimits}
 use Rattle.chunk_program.specs.CutConditions.{AreDeckDisks, IsCuttable}
@@ -17,9 +17,9 @@ unfolding cut
 length-cut items [] = refl
 length-cut items (s ∷ specs) = ap suc (length-cut (drop s.size items) specs)
 
--- The cut of a deck has as many disks as the deck.
-pub length_disks_in : (deck : Deck) → length (disks_in deck 0) ≡ length deck.disks
-length_disks_in deck = length-cut (order (rates_in deck)) deck.disks
+-- The cut of an edition has as many disks as the deck says.
+pub length_disks_in : (deck : Deck) (e : ℕ) → length (disks_in deck e) ≡ length (specs_in deck e)
+length_disks_in deck e = length-cut (order (rates_in deck)) (specs_in deck e)
 
 cut_freqs : (items : List ℕ) (specs : List DiskSpec) → All (λ (s : DiskSpec). s.freq ≤ 64) specs → All (λ (d : Disk). d.freq ≤ 64) (cut items specs)
 unfolding cut
@@ -59,20 +59,30 @@ few_items deck made = by (has_ages deck.settings.version) made.most
     by true most = most
     by false most = omega arith
 
+-- The disks of an edition are few, and each is within its limits.
+edition_few : (deck : Deck) (e : ℕ) → WithinLimits deck → e < count_editions deck → length (specs_in deck e) ≤ MOST_DISKS
+edition_few deck zero within below = within.disks
+edition_few deck (suc k) within below = (within.replans k no_replan (omega arith)).disks
+
+edition_within : (deck : Deck) (e : ℕ) → WithinLimits deck → e < count_editions deck → All DiskWithin (specs_in deck e)
+edition_within deck zero within below = within.disk
+edition_within deck (suc k) within below = (within.replans k no_replan (omega arith)).disk
+
 -- What a well-made deck within the limits gives.
-pub deck_cuttable : (deck : Deck) → IsDeck deck → WithinLimits deck → IsCuttable (rates_in deck) deck.disks
-deck_cuttable deck made within = record {
+pub deck_cuttable : (deck : Deck) (e : ℕ) → IsDeck deck → WithinLimits deck → e < count_editions deck → IsCuttable (rates_in deck) (specs_in deck e)
+deck_cuttable deck e made within below = record {
   some = (let some = made.some in omega (arith, length-map {A = Item} {B = ℕ}));
   few = (let most = few_items deck made in omega (arith, length-map {A = Item} {B = ℕ}));
-  disks = within.disks;
-  sizes = made.sizes 0 (omega arith) ∙ sym (length-map deck.items (λ (i : Item). i.rate));
-  aired = All-weaker (λ (d : DiskSpec). (0 < d.size) × (0 < d.freq)) (λ (d : DiskSpec). 0 < d.freq) (λ d both. both.1) deck.disks (made.aired 0 (omega arith));
-  freqs = All-weaker DiskWithin (λ (d : DiskSpec). d.freq ≤ 64) (λ d both. both.freq) deck.disks within.disk;
+  disks = edition_few deck e within below;
+  sizes = made.sizes e below ∙ sym (length-map deck.items (λ (i : Item). i.rate));
+  aired = All-weaker (λ (d : DiskSpec). (0 < d.size) × (0 < d.freq)) (λ (d : DiskSpec). 0 < d.freq) (λ d both. both.1) (specs_in deck e) (made.aired e below);
+  freqs = All-weaker DiskWithin (λ (d : DiskSpec). d.freq ≤ 64) (λ d both. both.freq) (specs_in deck e) (edition_within deck e within below);
 }
 
-pub deck_limits : (deck : Deck) → IsDeck deck → WithinLimits deck → AreDeckDisks (disks_in deck 0)
-deck_limits deck made within = cut_limits (rates_in deck) deck.disks (deck_cuttable deck made within)
+pub deck_limits : (deck : Deck) (e : ℕ) → IsDeck deck → WithinLimits deck → e < count_editions deck → AreDeckDisks (disks_in deck e)
+deck_limits deck e made within below = cut_limits (rates_in deck) (specs_in deck e) (deck_cuttable deck e made within below)
 
--- The program of a deck has the deck's items.
-pub deck_items : (deck : Deck) → IsDeck deck → WithinLimits deck → length (all_items (disks_in deck 0)) ≡ length deck.items
-deck_items deck made within = cut_length (rates_in deck) deck.disks (deck_cuttable deck made within) ∙ length-map deck.items (λ (i : Item). i.rate)
+-- The program of an edition has the deck's items.
+pub deck_items : (deck : Deck) (e : ℕ) → IsDeck deck → WithinLimits deck → e < count_editions deck → length (all_items (disks_in deck e)) ≡ length deck.items
+deck_items deck e made within below =
+    cut_length (rates_in deck) (specs_in deck e) (deck_cuttable deck e made within below) ∙ length-map deck.items (λ (i : Item). i.rate)

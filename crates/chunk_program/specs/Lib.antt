@@ -1,3 +1,4 @@
+pub mod Editions
 pub mod Places
 pub mod PlaceTables
 pub mod ProgramFields
@@ -5,4 +6,5 @@ pub mod CutConditions
 pub mod CutFields
 pub mod Homes
 pub mod Plans
+pub mod PlansFields
 pub mod Private

@@ -1,12 +1,12 @@
-//! The cut of a deck, made from its rates and its disks.
+//! The cut of an edition of a deck, made from the deck's rates and the edition's disks.
 
-ghost use Rattle.std.specs.Prelude.{◌≡◌, IfOk};
-ghost use Rattle.air_model.specs.Decks.{disks_in, rates_in};
+ghost use Rattle.std.specs.Prelude.{◌≡◌, ◌<◌, IfOk};
+ghost use Rattle.air_model.specs.Decks.{count_editions, disks_in, rates_in, specs_in};
 
 use crate::cuts::Cut;
 use crate::disks::DiskSpec;
 use air_base::NoMemory;
-use item_catalog::Deck;
+use item_catalog::{Deck, Replan};
 use std::alloc::{AllocError, Global};
 
 /// The rates of a deck's items.
@@ -20,8 +20,8 @@ fn rates(alloc: Global, deck: &Deck) -> Result<Vec<u32>, AllocError>
     Ok(rates)
 }
 
-/// The disks of a deck.
-fn specs(alloc: Global, deck: &Deck) -> Result<Vec<DiskSpec>, AllocError>
+/// The deck's own disks.
+fn own_specs(alloc: Global, deck: &Deck) -> Result<Vec<DiskSpec>, AllocError>
     ensures { IfOk result (λ specs. specs.items ≡ deck.now.disks) }
 {
     let mut specs = Vec::new(alloc);
@@ -33,13 +33,39 @@ fn specs(alloc: Global, deck: &Deck) -> Result<Vec<DiskSpec>, AllocError>
     Ok(specs)
 }
 
-/// The cut of a deck: its items by greater rate, then by smaller number, and disks that take consecutive ranges.
-pub fn cut(alloc: Global, deck: &Deck) -> Result<Cut, NoMemory>
-    ensures { IfOk result (λ c. c ≡ disks_in deck.now 0) }
+/// The disks of a replan.
+fn replan_specs(alloc: Global, replan: &Replan<'_>) -> Result<Vec<DiskSpec>, AllocError>
+    ensures { IfOk result (λ specs. specs.items ≡ replan.now.disks) }
+{
+    let mut specs = Vec::new(alloc);
+    for disk in 0..replan.disks() {
+        let size = replan.size(disk);
+        let freq = replan.freq(disk);
+        specs.push(DiskSpec { size, freq })?;
+    }
+    Ok(specs)
+}
+
+/// The disks of an edition of a deck.
+fn specs(alloc: Global, deck: &Deck, edition: u32) -> Result<Vec<DiskSpec>, AllocError>
+    requires { edition < count_editions deck.now }
+    ensures { IfOk result (λ specs. specs.items ≡ specs_in deck.now edition) }
+{
+    if edition == 0 {
+        return own_specs(alloc, deck);
+    }
+    let replan = deck.replan(edition - 1);
+    replan_specs(alloc, &replan)
+}
+
+/// The cut of an edition of a deck: its items by greater rate, then by smaller number, and disks that take consecutive ranges.
+pub fn cut(alloc: Global, deck: &Deck, edition: u32) -> Result<Cut, NoMemory>
+    requires { edition < count_editions deck.now }
+    ensures { IfOk result (λ c. c ≡ disks_in deck.now edition) }
 {
     deck.shows_well_made();
     let rates = rates(alloc, deck)?;
-    let specs = specs(alloc, deck)?;
+    let specs = specs(alloc, deck, edition)?;
     let cut = Cut::new(alloc, &rates, &specs)?;
     Ok(cut)
 }

@@ -1,5 +1,6 @@
 mod DrillLemmas
 mod HeadlineLemmas
+mod ProgramLemmas
 mod RowLemmas
 mod SplitLemmas
 mod WordLemmas

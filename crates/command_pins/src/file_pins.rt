@@ -11,7 +11,7 @@ ghost use Rattle.item_catalog.specs.Grammar.{Spells};
 use air_cli::{plan_deck, read_bytes, read_deck_file, read_runnable_deck};
 use air_devices::MemShelf;
 use air_report::Status;
-use chunk_program::{Cut, Planned};
+use chunk_program::Planned;
 use item_catalog::{Deck, not_both_law};
 use std::alloc::Global;
 
@@ -90,7 +90,7 @@ pub fn row_of_another_record(
     read_deck_file(alloc, shelf, name)
 }
 
-/// A deck is refused for its program only where that has more slots than a program may have.
+/// A deck is refused for a program only where one has more slots than a program may have.
 pub fn short_program_told_as_too_long(
     alloc: Global,
     shelf: &mut MemShelf,
@@ -101,8 +101,8 @@ pub fn short_program_told_as_too_long(
     read_runnable_deck(alloc, shelf, name)
 }
 
-/// A program that is too long is refused with its own number of slots.
-pub fn too_long_by_another_number(alloc: Global, deck: Deck) -> Result<(Cut, Planned), Status>
+/// A deck whose first program is too long is refused with the slots of that one, whatever its replans have.
+pub fn too_long_by_another_number(alloc: Global, deck: Deck) -> Result<Planned, Status>
     requires { length (program (disks_in deck 0)) ≡ 20_160 }
     ensures { (slots : ℕ) → result ≡ Err (Status.PlanTooLong slots) → slots ≡ 20_160 }
 {

@@ -2,12 +2,12 @@
 //! They also say when a run is refused for the length of its tape, and with which number.
 #![tactic(auto, unfolding(air_cli::specs::GivenRuns::IsRunRefusal))]
 
-ghost use Rattle.std.specs.Prelude.{◌≡◌, ◌≢◌, ◌<◌, ◌*◌, [], ◌∷◌, length, map, Err, IfOk, IfSome};
-ghost use Rattle.air_model.specs.Decks.{IsWhole, disks_in};
+ghost use Rattle.std.specs.Prelude.{◌≡◌, ◌≢◌, ◌<◌, [], ◌∷◌, length, map, Err, IfOk, IfSome};
+ghost use Rattle.air_model.specs.Aired.{air_of, slots_at};
+ghost use Rattle.air_model.specs.Decks.{IsWhole};
 ghost use Rattle.air_model.specs.Outputs.{run_output, run_tape};
-ghost use Rattle.air_model.specs.Programs.{program as slots_of};
 ghost use Rattle.air_model.specs.declared.reports.LookLine.{LookLine};
-ghost use Rattle.air_sender.specs.TapeSizes.{cycle_size};
+ghost use Rattle.air_sender.specs.TapeSizes.{tape_size};
 ghost use Rattle.air_model.specs.Runs.{Run};
 
 use air_cli::{ReportAndTape, run_on_air};
@@ -46,11 +46,10 @@ pub fn longest_run_refused(planned: &Planned) -> Option<u64>
     long_run(planned)
 }
 
-/// A tape that is too long has the bytes of each of the deck's three cycles.
+/// A tape that is too long has the bytes of each of the deck's three cycles, by the program in force in it.
 pub fn monitors_for_cycles(planned: &Planned) -> Option<u64>
     requires { planned.now.settings.cycles ≡ 3 }
-    ensures { IfSome result (λ bytes. bytes ≡ 3 * cycle_size planned.now.settings.version (length planned.now.items) (slots_of (disks_in planned.now 0))) }
+    ensures { IfSome result (λ bytes. bytes ≡ tape_size planned.now.settings.version (length planned.now.items) (slots_at (air_of planned.now)) 3) }
 {
-    planned.shows_planned();
     long_run(planned)
 }

@@ -1,6 +1,6 @@
 //! Cases that ask a deck for its parts: each answer is a line or some, and `missing` where the deck has no such part.
 //!
-//! `counts` and `settings` ask for all at once; `item`, `disk`, `updates`, `reader` and `event` have a number; `update` has the
+//! `counts`, `replans` and `settings` ask for all at once; `item`, `disk`, `replan`, `updates`, `reader` and `event` have a number; `update` has the
 //! number of an updater and that of its update, and `query` that of a reader and that of its query.
 
 ghost use Rattle.std.specs.Prelude.{◌<◌, length};
@@ -13,8 +13,8 @@ use item_catalog::Deck;
 /// The two numbers behind a word; 0 for those that it hasn't.
 pub fn question(word: &[u8], parts: &mut Parts<'_>) -> (u64, u64) {
     match word {
-        b"counts" | b"settings" => (0, 0),
-        b"item" | b"disk" | b"updates" | b"reader" | b"event" => (parts.number(), 0),
+        b"counts" | b"replans" | b"settings" => (0, 0),
+        b"item" | b"disk" | b"replan" | b"updates" | b"reader" | b"event" => (parts.number(), 0),
         b"update" | b"query" => (parts.number(), parts.number()),
         _ => {
             parts.refuse(BadCase::NoSuchWord);
@@ -36,6 +36,8 @@ pub fn answer(
         b"counts" => add_counts(deck, came),
         b"item" if first < u64::from(deck.items()) => add_item(deck, first as u16, came),
         b"disk" if first < u64::from(deck.disks()) => add_disk(deck, first as u32, came),
+        b"replans" => add_line(b"replans", &[u64::from(deck.replans())], came),
+        b"replan" if first < u64::from(deck.replans()) => add_replan(deck, first as u32, came),
         b"updates" if first < u64::from(deck.updaters()) => {
             add_line(b"updates", &[deck.updates(first as u32).len() as u64], came)
         }
@@ -76,6 +78,19 @@ fn add_disk(deck: &Deck, d: u32, came: &mut Vec<u8>) -> Result<(), NoMemory>
 {
     add_line(b"size", &[u64::from(deck.size(d))], came)?;
     add_line(b"freq", &[u64::from(deck.freq(d))], came)
+}
+
+/// Adds a replan's cycle, and the size and the frequency of each of its disks.
+fn add_replan(deck: &Deck, k: u32, came: &mut Vec<u8>) -> Result<(), NoMemory>
+    requires { k < length deck.now.replans }
+{
+    let replan = deck.replan(k);
+    add_line(b"cycle", &[u64::from(replan.cycle())], came)?;
+    for d in 0..replan.disks() {
+        let numbers = [u64::from(replan.size(d)), u64::from(replan.freq(d))];
+        add_line(b"disk", &numbers, came)?;
+    }
+    Ok(())
 }
 
 /// Adds a reader's plan, and how many queries it has.

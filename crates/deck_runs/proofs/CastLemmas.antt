@@ -1,12 +1,13 @@
 -- What a cast has sent, step by step: it had sent nothing before.
-use Rattle.std.proofs.Common.{◌≡◌, ℕ, ◌*◌, Option, Some, None, List, [], length, take, sym, ◌∙◌, ap, subst, arith}
-use Rattle.std.proofs.Math.Nat.{mul_comm}
+use Rattle.std.proofs.Common.{◌≡◌, ℕ, suc, ◌+◌, Option, Some, None, List, [], ◌∷◌, length, take, sym, ◌∙◌, ap, subst, arith}
+use Rattle.std.specs.List.{range_with_len, sum_by}
 use Rattle.std.proofs.lemmas.List.{append-nil, take_all}
+use Rattle.std.proofs.lemmas.List.Sums.{sum_by-append, sum_by-cons}
 use Rattle.air_history.specs.declared.histories.Event.{Event}
-use Rattle.air_model.specs.Aired.{air_of}
-use Rattle.air_model.specs.Decks.{Deck, IsWhole, disks_in, values_in}
+use Rattle.air_model.specs.Aired.{air_of, slots_at}
+use Rattle.air_model.specs.Decks.{Deck, IsWhole, edition, values_in}
 use Rattle.air_model.specs.Programs.{program}
-use Rattle.air_model.proofs.EditionLemmas.{plain_slots}
+use Rattle.air_model.proofs.EditionLemmas.{slots_are}
 use Rattle.air_devices.specs.Counts.{Rose}
 use Rattle.air_devices.specs.Masts.{Changes, MastState, SentBuckets, nothing_sent, with_buckets, with_end}
 use Rattle.air_devices.specs.WhatIsTold.{WhereTold}
@@ -14,10 +15,12 @@ use Rattle.deck_runs.specs.DeckBytes.{deck_bytes}
 use Rattle.deck_runs.specs.RunAnswers.{IsRunAnswer}
 use Rattle.deck_runs.specs.declared.threads.RunFault.{RunFault}
 use Rattle.deck_runs.specs.declared.threads.RunFault.TheVariants as fault
-use Rattle.deck_runs.proofs.SendLemmas.{even_bytes}
+use Rattle.air_sender.proofs.AiredLemmas.{range_more}
+use Rattle.chunk_program.specs.Editions.{EditionDisks, edition_disks}
+use Rattle.deck_runs.proofs.SendLemmas.{count_bytes}
 use Rattle.deck_runs.proofs.SentLemmas.{sends_nothing}
 use Rattle.deck_runs.specs.Casts.{IsCastAnswer, IsCastPart, all_sent, first_sent}
-use Rattle.deck_runs.specs.Private.CastSteps.{bucket_count}
+use Rattle.deck_runs.specs.Private.CastSteps.{bucket_count, buckets_up_to}
 
 -- It had sent nothing, where that is told.
 abbrev pub Unsent : Option SentBuckets → Type 0
@@ -56,11 +59,19 @@ end_behind B (Some s) mid now last unsent same h ended =
 
 -- ---- how many buckets there are
 
--- A whole history of a deck without replans airs so many buckets.
-bytes_count : (deck : Deck) (H : List Event) → deck.replans ≡ [] → IsWhole deck H → length (deck_bytes deck H) ≡ bucket_count deck
-bytes_count deck H none whole =
-    let n = length (program (disks_in deck 0)) in
-    even_bytes (values_in deck) (air_of deck) n (λ c. ap length (plain_slots deck c none)) H ∙ ap (λ k. k * n) whole.cycles ∙ mul_comm deck.settings.cycles n
+-- A whole history of a deck airs so many buckets.
+bytes_count : (deck : Deck) (H : List Event) → IsWhole deck H → length (deck_bytes deck H) ≡ bucket_count deck
+bytes_count deck H whole = count_bytes (values_in deck) (air_of deck) H ∙ ap (buckets_up_to deck) whole.cycles
+
+-- One cycle more has the slots of the program that is in force in it.
+pub buckets_more : (deck : Deck) (done slots : ℕ) (p : EditionDisks) → p ≡ edition_disks deck (edition deck (1 + done)) → slots ≡ length (program p.disks) → buckets_up_to deck (done + 1) ≡ buckets_up_to deck done + slots
+buckets_more deck done slots p is count =
+    let f : ℕ → ℕ = λ c. length (slots_at (air_of deck) c) in
+    let c = 1 + done in
+    let next : done + 1 ≡ suc done = omega arith in
+    let own : f c ≡ slots = ap length (slots_are deck c) ∙ ap (λ (q : EditionDisks). length (program q.disks)) (sym is) ∙ sym count in
+    let last : sum_by f (c ∷ []) ≡ slots = sum_by-cons f c [] ∙ omega (arith, own) in
+    ap (buckets_up_to deck) next ∙ ap (sum_by f) (range_more 1 done) ∙ sum_by-append f (range_with_len 1 done) (c ∷ []) ∙ ap (λ n. buckets_up_to deck done + n) last
 
 -- ---- what a fault says
 
@@ -100,8 +111,8 @@ run_cast state deck before mid now fault.NoMemory unsent same calm h = (
 )
 
 -- After all buckets.
-pub all_cast : (deck : Deck) (H : List Event) (n : ℕ) (before mid now last : Option SentBuckets) → deck.replans ≡ [] → IsWhole deck H → n ≡ bucket_count deck → Unsent before → mid ≡ before
+pub all_cast : (deck : Deck) (H : List Event) (n : ℕ) (before mid now last : Option SentBuckets) → IsWhole deck H → n ≡ bucket_count deck → Unsent before → mid ≡ before
     → Changes (with_buckets (deck_bytes deck H)) mid now → last ≡ now → IsCastPart deck n before last
-all_cast deck H n before mid now last none whole is unsent same sent kept =
-    let count : n ≡ length (deck_bytes deck H) = is ∙ sym (bytes_count deck H none whole) in
+all_cast deck H n before mid now last whole is unsent same sent kept =
+    let count : n ≡ length (deck_bytes deck H) = is ∙ sym (bytes_count deck H whole) in
     record { history = H; whole = whole; within = omega arith; sent = all_behind n (deck_bytes deck H) before mid now last count unsent same sent kept }

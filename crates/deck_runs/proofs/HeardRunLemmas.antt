@@ -1,14 +1,12 @@
 -- What is true of the runs of a deck, and of the tape of one. The laws and `air_run` cite these.
-use Rattle.std.proofs.Common.{◌≡◌, ℕ, zero, suc, ◌+◌, ◌*◌, ◌^◌, ◌≤◌, Some, List, [], ◌∷◌, ◌++◌, length, map, replicate, All, sym, ◌∙◌, ap, subst, arith}
-use Rattle.std.specs.List.{range_with_len}
-use Rattle.std.proofs.lemmas.List.Elements.{All-from_recursion}
+use Rattle.std.proofs.Common.{◌≡◌, ℕ, zero, suc, ◌*◌, Some, List, [], ◌++◌, length, map, replicate, sym, ◌∙◌, ap, arith}
 use Rattle.air_history.specs.Histories.{starts}
 use Rattle.air_history.specs.declared.histories.Event.TheVariants.{Start}
 use Rattle.air_model.proofs.StartLemmas.{starts_none, starts_start}
 use Rattle.air_model.specs.Aired.{air_of, buckets_of, slots_at}
 use Rattle.air_model.specs.AiredLaws.{CanAir}
 use Rattle.air_model.specs.Buckets.{bucket_in, spelling}
-use Rattle.air_model.specs.Decks.{Deck, IsDeck, IsLegal, Replan, disks_in, values_in}
+use Rattle.air_model.specs.Decks.{Deck, IsDeck, IsLegal, disks_in, values_in}
 use Rattle.air_model.specs.Draws.{words_of}
 use Rattle.air_model.specs.Ethers.{heard_by}
 use Rattle.air_model.specs.Outputs.{ether_of, odds_in, run_tape}
@@ -23,7 +21,9 @@ use Rattle.air_devices.specs.Masts.{Changes, MastState, fresh_mast, nothing_sent
 use Rattle.air_sender.specs.TapeMasts.{tape_mast_state, told_by_tape}
 use Rattle.air_sender.specs.declared.tape_mast.TapeMast.{TapeMast}
 use Rattle.air_sender.specs.TapeSizes.{cycle_size, tape_size}
+use Rattle.air_sender.proofs.TapeLemmas.{slots_short}
 use Rattle.air_sender.proofs.TapeLengths.{history_size, plain_size}
+use Rattle.chunk_program.specs.Plans.{AreShort}
 use Rattle.item_catalog.specs.DeckLimits.{WithinLimits}
 use Rattle.air_model.specs.Runs.{IsRun, Run}
 use Rattle.air_model.proofs.ItemLemmas.{items_aired}
@@ -31,25 +31,23 @@ use Rattle.listeners.specs.HistoryTapes.{HasTape}
 use Rattle.deck_runs.specs.DeckBytes.{deck_bytes}
 use Rattle.deck_runs.specs.RunTapes.{run_tape_len}
 use Rattle.deck_runs.specs.RunTruths.{IsTrueRun}
-use Rattle.deck_runs.proofs.RunLemmas.{no_replans}
 
 -- ---- what is true
 
 -- A run's history can be aired.
-pub run_airs : (deck : Deck) (run : Run) → IsDeck deck → WithinLimits deck → length (program (disks_in deck 0)) ≤ 16384 → IsRun deck run → CanAir deck run.history
+pub run_airs : (deck : Deck) (run : Run) → IsDeck deck → WithinLimits deck → AreShort deck → IsRun deck run → CanAir deck run.history
 run_airs deck run made within short is = record {
   made = made;
   legal = is.whole.legal;
   cycles = (let all = is.whole.cycles in let few = within.settings.cycles in omega arith);
-  slots = subst (λ (rs : List Replan). All (λ slots. length slots ≤ 2 ^ 16) (map (λ e. program (disks_in deck e)) (range_with_len 0 (length rs + 1)))) (sym (no_replans deck made))
-      (All-from_recursion (λ slots. length slots ≤ 2 ^ 16) (program (disks_in deck 0) ∷ []) (omega arith, tt));
+  slots = slots_short deck short;
 }
 
 -- The law that `one_history_law` has.
 abbrev pub OneHistoryLaw : Type 0
 OneHistoryLaw = (deck : Deck) (r s : Report) → WithinLimits deck → IsLegal deck r.history → IsLegal deck s.history → report_text r ≡ report_text s → r.history ≡ s.history
 
-pub true_run : OneHistoryLaw → (deck : Deck) (run : Run) → IsDeck deck → WithinLimits deck → length (program (disks_in deck 0)) ≤ 16384 → IsRun deck run → IsTrueRun deck run
+pub true_run : OneHistoryLaw → (deck : Deck) (run : Run) → IsDeck deck → WithinLimits deck → AreShort deck → IsRun deck run → IsTrueRun deck run
 unfolding heard_by
 true_run one_history deck run made within short is =
     let H = run.history in
@@ -67,7 +65,14 @@ all_started : (n : ℕ) → starts (replicate n Start) ≡ n
 all_started zero = starts_none
 all_started (suc n) = starts_start (replicate n Start) ∙ ap suc (all_started n)
 
--- The tape of the run of a deck without replans has the bytes of a cycle for each of the deck's cycles.
+-- The tape of a deck's run has the bytes of its cycles, each with the slots of the program in force in it.
+pub run_sum : (deck : Deck) → run_tape_len deck ≡ tape_size deck.settings.version (length deck.items) (slots_at (air_of deck)) deck.settings.cycles
+unfolding run_tape_len
+run_sum deck =
+    history_size (values_in deck) (air_of deck) (replicate deck.settings.cycles Start)
+    ∙ ap (tape_size deck.settings.version (length deck.items) (slots_at (air_of deck))) (all_started deck.settings.cycles)
+
+-- Without replans each cycle has the bytes of the first.
 pub run_size : (deck : Deck) → deck.replans ≡ [] → run_tape_len deck ≡ deck.settings.cycles * cycle_size deck.settings.version (length deck.items) (program (disks_in deck 0))
 unfolding run_tape_len
 run_size deck none = plain_size deck none (replicate deck.settings.cycles Start) ∙ ap (λ n. n * cycle_size deck.settings.version (length deck.items) (program (disks_in deck 0))) (all_started deck.settings.cycles)
@@ -91,7 +96,7 @@ sent_all old new bytes fresh sent =
     let is : told_by_tape new ≡ with_buckets bytes (told_by_tape old) = cc in
     ap (λ s. s.buckets) is ∙ ap (λ s. s.buckets ++ bytes) was
 
-pub has_tape : (deck : Deck) (run : Run) (old new : TapeMast) → IsDeck deck → WithinLimits deck → length (program (disks_in deck 0)) ≤ 16384 → IsRun deck run → tape_mast_state old ≡ fresh_mast
-    → Changes (with_buckets (deck_bytes deck run.history)) (tape_mast_state old).told (tape_mast_state new).told → HasTape deck run.history (tape_of (told_by_tape new).buckets)
-has_tape deck run old new made within short is fresh sent =
-    record { aired = run_airs deck run made within short is; same = ap tape_of (sent_all old new (deck_bytes deck run.history) fresh sent) }
+pub has_tape : (deck : Deck) (run : Run) (old new : TapeMast) (tape : List ℕ) → IsDeck deck → WithinLimits deck → AreShort deck → IsRun deck run → tape_mast_state old ≡ fresh_mast
+    → Changes (with_buckets (deck_bytes deck run.history)) (tape_mast_state old).told (tape_mast_state new).told → tape ≡ tape_of (told_by_tape new).buckets → HasTape deck run.history tape
+has_tape deck run old new tape made within short is fresh sent told =
+    record { aired = run_airs deck run made within short is; same = told ∙ ap tape_of (sent_all old new (deck_bytes deck run.history) fresh sent) }

@@ -11,3 +11,4 @@ pub mod SightLemmas
 pub mod CastLemmas
 pub mod HeardRunLemmas
 mod RunExamples
+mod TruthExamples

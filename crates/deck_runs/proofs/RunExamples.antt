@@ -5,6 +5,7 @@ use Rattle.std.specs.List.{flat_map, range_with_len}
 use mathlib.Core.List.{IsPrefix}
 use Rattle.std.proofs.lemmas.List.Elements.{All-from_recursion, All-nil}
 use Rattle.air_base.specs.declared.limits.TheConstants.{MOST_ASKED, MOST_RATE}
+use Rattle.air_base.specs.declared.verdicts.Form.{Form}
 use Rattle.air_history.specs.Boards.{board_of}
 use Rattle.air_history.specs.Histories.{is_start, starts}
 use Rattle.air_history.specs.Tables.{BasesRead}
@@ -21,11 +22,14 @@ use Rattle.air_model.specs.Programs.{chunk, chunk_len, least_common_multiple, mi
 use Rattle.air_model.specs.Reports.{Report, report_text}
 use Rattle.air_model.specs.Runs.{IsRun, Run}
 use Rattle.air_model.proofs.RelationExamples.{pair_is_deck}
-use Rattle.air_model.proofs.SessionExamples.{pair}
+use Rattle.air_model.proofs.SessionExamples.{item, pair}
 use Rattle.update_commit.proofs.EventLemmas.{starts_none}
 use Rattle.air_devices.specs.Masts.{MastState, SentBuckets, nothing_sent}
 use Rattle.cycle_snapshot.specs.SnapshotStates.{MonitorState, PublisherState}
-use Rattle.item_catalog.specs.DeckLimits.{DiskWithin, ReaderWithin, WithinLimits}
+use Rattle.item_catalog.specs.DeckLimits.{DiskWithin, ReaderWithin, ReplanWithin, WithinLimits}
+use Rattle.air_sender.specs.BoardBuckets.{form_of}
+use Rattle.chunk_program.specs.Editions.{plans_in}
+use Rattle.chunk_program.specs.Plans.{AreShort}
 use Rattle.station.specs.PassStates.{PassState}
 use Rattle.deck_runs.specs.Casts.{IsCastPart, all_sent, first_sent}
 use Rattle.deck_runs.specs.DeckBytes.{deck_bytes}
@@ -33,10 +37,12 @@ use Rattle.deck_runs.specs.Looks.{LookedTimes}
 use Rattle.deck_runs.specs.PublishedBatches.{IsBoardOf}
 use Rattle.deck_runs.specs.RunTapes.{IsLongRun, run_tape_len}
 use Rattle.deck_runs.specs.RunTruths.{IsTrueRun, TellsHistory}
-use Rattle.deck_runs.specs.Sendings.{SendsUpTo}
+use Rattle.deck_runs.specs.Private.CastSteps.{bucket_count}
+use Rattle.deck_runs.specs.Sendings.{IsAirOf, SendsUpTo}
 use Rattle.deck_runs.specs.declared.jobs.conductors.ConductFault.TheVariants as fault
 use Rattle.deck_runs.proofs.CycleLemmas.{board_at, starts_one}
-use Rattle.deck_runs.proofs.HeardRunLemmas.{OneHistoryLaw, run_size, true_run}
+use Rattle.deck_runs.proofs.HeardRunLemmas.{OneHistoryLaw, run_size, run_sum, true_run}
+use Rattle.deck_runs.proofs.RunLemmas.{own_air}
 
 -- Two items, a reader of one query, no updates; so many cycles.
 abbrev of_cycles : ℕ → Deck
@@ -52,13 +58,13 @@ is_deck cycles = record {
   aired = pair_is_deck.aired;
   few = pair_is_deck.few;
   from_two = pair_is_deck.from_two;
+  within_a_run = pair_is_deck.within_a_run;
   rising = pair_is_deck.rising;
   updates = pair_is_deck.updates;
   readers = refl;
   tries = pair_is_deck.tries;
   queries = pair_is_deck.queries;
   script = pair_is_deck.script;
-  plain = pair_is_deck.plain;
 }
 
 is_within : WithinLimits (of_cycles 1)
@@ -66,6 +72,7 @@ is_within = record {
   rates = All-from_recursion (λ i. i.rate ≤ MOST_RATE) pair.items (omega arith, (omega arith, tt));
   disks = omega arith;
   disk = All-from_recursion DiskWithin pair.disks (record { size = omega arith; freq = omega arith }, tt);
+  replans = All-nil ReplanWithin;
   updaters = omega arith;
   updates = omega arith;
   readers = omega arith;
@@ -127,9 +134,13 @@ slots : length (program (disks_in pair 0)) ≡ 2
 unfolding order order_with cut program least_common_multiple num_minors num_chunks chunk_len chunk minor_cycle
 slots = refl
 
+short : AreShort (of_cycles 1)
+short zero below = omega (arith, slots)
+short (suc e) below = absurd (omega arith)
+
 -- By the law of one history all is true of it that is true of a run: its deck is well made, within the limits, and short.
 true_of_one : OneHistoryLaw → IsTrueRun (of_cycles 1) one_run
-true_of_one one_history = true_run one_history (of_cycles 1) one_run (is_deck 1) is_within (omega (arith, slots)) one_run_is
+true_of_one one_history = true_run one_history (of_cycles 1) one_run (is_deck 1) is_within short one_run_is
 
 -- A commit whose base isn't read.
 abbrev on_unread : Write
@@ -179,6 +190,30 @@ long deck counted = record { counted = sym counted; above = omega arith }
 
 at_the_most : (deck : Deck) → IsLongRun deck 1073741824 → ⊥
 at_the_most deck h = let above : 1073741824 < 1073741824 = h.above in omega arith
+
+-- Three items on one disk in three slots, and from cycle 2 on on two disks in four; so many cycles.
+abbrev changing : ℕ → Deck
+changing cycles = record (of_cycles cycles) {
+  items = item 10 3 ∷ item 20 2 ∷ item 30 1 ∷ [];
+  disks = record { size = 3; freq = 1 } ∷ [];
+  replans = record { cycle = 2; disks = record { size = 1; freq = 2 } ∷ record { size = 2; freq = 1 } ∷ [] } ∷ [];
+}
+
+-- Each bucket has 40 bytes on the tape; a replan after the cycles that are aired adds none.
+changing_bytes : (run_tape_len (changing 0) ≡ 0) × (run_tape_len (changing 1) ≡ 120) × (run_tape_len (changing 3) ≡ 440)
+unfolding order order_with cut program least_common_multiple num_minors num_chunks chunk_len chunk minor_cycle
+changing_bytes = (run_sum (changing 0), run_sum (changing 1), run_sum (changing 3))
+
+changing_buckets : (bucket_count (changing 0) ≡ 0) × (bucket_count (changing 1) ≡ 3) × (bucket_count (changing 3) ≡ 11)
+unfolding order order_with cut program least_common_multiple num_minors num_chunks chunk_len chunk minor_cycle
+changing_buckets = (refl, refl, refl)
+
+-- Its air is that of its plans; that of a deck without replans isn't.
+own_is : IsAirOf (values_in (changing 3)) (form_of (air_of (changing 3))) (plans_in (changing 3)) (air_of (changing 3))
+own_is = own_air (changing 3) (plans_in (changing 3)) (values_in (changing 3)) (form_of (air_of (changing 3))) refl refl refl
+
+not_own : (values : List ℕ) (form : Form) → IsAirOf values form (plans_in (changing 3)) (air_of pair) → ⊥
+not_own values form h = let second : 0 ≡ 1 = h.edition_is 2 in omega (arith, second)
 
 -- ---- casts
 

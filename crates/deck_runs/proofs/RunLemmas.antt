@@ -1,15 +1,14 @@
 -- A deck's run, from the beginning.
-use Rattle.std.proofs.Common.{◌≡◌, ◌⊎◌, ℕ, ◌+◌, ◌*◌, ◌≤◌, Option, List, [], ◌++◌, length, All, inl, inr, refl, sym, ◌∙◌, ap, subst, arith}
+use Rattle.std.proofs.Common.{◌≡◌, ◌⊎◌, ℕ, ◌+◌, ◌*◌, ◌≤◌, Option, List, [], ◌++◌, get_or, length, All, inl, inr, refl, sym, ◌∙◌, ap, subst, arith}
 use Rattle.std.proofs.lemmas.List.{length-map}
+use Rattle.std.proofs.lemmas.List.FromFn.{get_or-map-range_with_len}
 use Rattle.std.specs.Prelude.{Result, Ok, Err, MatchResult, OnErr, OnOk}
 use Rattle.air_base.specs.declared.verdicts.Form.{Form}
 use Rattle.air_history.specs.declared.histories.Event.{Event}
 use Rattle.air_history.specs.Histories.{starts}
 use Rattle.air_history.specs.Boards.{Board, board_of}
-use Rattle.air_model.specs.Disks.{Disk, all_items}
-use Rattle.air_model.specs.Programs.{program as slots_of}
 use Rattle.air_model.specs.Buckets.{entry_len, most_count}
-use Rattle.air_model.specs.Decks.{Deck, IsDeck, disks_in, values_in}
+use Rattle.air_model.specs.Decks.{Deck, IsDeck, count_editions, edition, values_in}
 use Rattle.air_model.specs.Aired.{Air, air_of, buckets_of}
 use Rattle.bucket_codec.specs.declared.offsets.TheConstants.{HEAD_BYTES}
 use Rattle.air_devices.specs.Masts.{Changes, MastState, SentBuckets, with_buckets}
@@ -22,9 +21,11 @@ use Rattle.cycle_snapshot.specs.SnapshotStates.{PublisherState}
 use Rattle.update_commit.proofs.EventLemmas.{starts_none}
 use Rattle.air_model.specs.Batches.{AirsByBatches, EndsWithStart}
 use Rattle.air_model.proofs.BatchLemmas.{airs_by_batches}
-use Rattle.air_model.proofs.EditionLemmas.{edition_is, one_edition, plain_slots}
+use Rattle.air_model.proofs.EditionLemmas.{edition_is, edition_within, slots_are}
+use Rattle.chunk_program.specs.Editions.{EditionDisks, HaveItems, Plans, edition_disks, no_disks, plans_in, programs_in}
+use Rattle.chunk_program.proofs.EditionSteps.{edition_of, slots_of_cycle}
 use Rattle.deck_runs.specs.PublishedBatches.{AreInStep, IsUpTo, PublishesOn}
-use Rattle.deck_runs.specs.Sendings.{CanAirIn, FailsAfter, IsAirOf, SendsCycles, SendsPart, SendsUpTo, bytes_aired}
+use Rattle.deck_runs.specs.Sendings.{CanAirIn, FailsAfter, IsAirOf, SendsCycles, SendsPart, SendsUpTo, bytes_aired, planned_program}
 use Rattle.deck_runs.specs.declared.jobs.conductors.ConductFault.{ConductFault}
 use Rattle.deck_runs.specs.declared.jobs.conductors.ConductFault.TheVariants as fault
 
@@ -46,19 +47,20 @@ new_in_step p f b values pv ps fv fb is = record {
   board = is ∙ (λ i. board_of (sym pv i) (batch_events (sym fb i)));
 }
 
--- A deck has no replans.
-pub no_replans : (deck : Deck) → IsDeck deck → deck.replans ≡ []
-no_replans deck made = made.plain
+-- The plans of a deck have the program of the cycle's edition in force.
+own_program : (deck : Deck) (plans : Plans) (c : ℕ) → plans ≡ plans_in deck → planned_program plans c ≡ edition_disks deck (edition deck c)
+own_program deck plans c are =
+    ap (λ (p : Plans). planned_program p c) are ∙ ap (λ e. get_or (programs_in deck) e no_disks) (edition_of deck (plans_in deck) c refl)
+    ∙ get_or-map-range_with_len (edition_disks deck) 0 (count_editions deck) (edition deck c) (edition deck c) no_disks (edition_within deck c) (omega arith)
 
--- So its air is of its values, its form and its slots.
-pub own_air : (deck : Deck) (disks : List Disk) (values : List ℕ) (form : Form) → deck.replans ≡ [] → disks ≡ disks_in deck 0 → values ≡ values_in deck → form ≡ form_of (air_of deck)
-    → IsAirOf values form (slots_of disks) (air_of deck)
-own_air deck disks values form none same first own = record {
+-- The air of a deck is of its values, its form and its plans.
+pub own_air : (deck : Deck) (plans : Plans) (values : List ℕ) (form : Form) → plans ≡ plans_in deck → values ≡ values_in deck → form ≡ form_of (air_of deck) → IsAirOf values form plans (air_of deck)
+own_air deck plans values form are first own = record {
   items = sym (ap length first ∙ values_sized deck);
   policy_is = ap (λ (f : Form). f.policy) (sym own);
   version_is = ap (λ (f : Form). f.version) (sym own);
-  edition_is = λ c. edition_is deck c ∙ one_edition deck c none;
-  slots_are = λ c. plain_slots deck c none ∙ ap slots_of (sym same);
+  edition_is = λ c. edition_is deck c ∙ ap (λ (p : EditionDisks). p.edition) (sym (own_program deck plans c are));
+  slots_are = λ c. slots_are deck c ∙ sym (slots_of_cycle deck plans c are);
 }
 
 -- It has no more items than a bucket of its version, and so no more than any bucket.
@@ -69,13 +71,13 @@ few_items deck made = elim made.version as (λ _. length deck.items ≤ 1024) [
 ]
 
 -- And its buckets can be made in its form.
-pub can_air : (deck : Deck) (form : Form) (values : List ℕ) (disks : List Disk) (room : ℕ) → IsDeck deck → form ≡ form_of (air_of deck) → length values ≡ length deck.items → length (all_items disks) ≡ length deck.items
-    → HEAD_BYTES + entry_len deck.settings.version * length deck.items ≤ room → CanAirIn form values disks room
-can_air deck form values disks room made own sized items space =
+pub can_air : (deck : Deck) (form : Form) (values : List ℕ) (plans : Plans) (room : ℕ) → IsDeck deck → form ≡ form_of (air_of deck) → length values ≡ length deck.items → plans ≡ plans_in deck
+    → HaveItems (length deck.items) (programs_in deck) → HEAD_BYTES + entry_len deck.settings.version * length deck.items ≤ room → CanAirIn form values plans room
+can_air deck form values plans room made own sized are items space =
     let version : form.version ≡ deck.settings.version = ap (λ (f : Form). f.version) own in
     record {
       version = subst (λ v. (v ≡ 1) ⊎ (v ≡ 2)) (sym version) made.version;
-      items = items ∙ sym sized;
+      items = subst (λ (p : Plans). HaveItems (length values) p.programs) (sym are) (subst (λ n. HaveItems n (programs_in deck)) (sym sized) items);
       few = λ one.
           let few = few_full deck made form.version version one in
           omega arith;

@@ -1,14 +1,16 @@
 -- What was sent of what a history airs.
-use Rattle.std.proofs.Common.{◌≡◌, ℕ, zero, suc, ◌+◌, ◌*◌, ◌<◌, ◌≤◌, Option, Some, None, List, [], ◌∷◌, ◌++◌, length, map, take, sym, ◌∙◌, ap, subst, arith, append_assoc, length-append, add-mul, zero-mul, mul-le-mul_right}
-use Rattle.std.specs.List.{flat_map, range_with_len}
-use Rattle.std.proofs.Math.Nat.{suc-mul}
+use Rattle.std.proofs.Common.{◌≡◌, ℕ, zero, suc, ◌+◌, ◌<◌, ◌≤◌, Option, Some, None, List, [], ◌∷◌, ◌++◌, length, map, take, refl, slice_get, sym, ◌∙◌, ap, subst, arith, append_assoc, length-append}
+use Rattle.std.specs.List.{flat_map, range_with_len, sum_by}
 use Rattle.std.proofs.lemmas.List.{append-nil, length-map, map-append}
 use Rattle.std.proofs.lemmas.List.FromFn.{length-map-range_with_len}
+use Rattle.std.proofs.lemmas.List.Sums.{sum_by-cons}
+use Rattle.std.proofs.lemmas.Option.{get_or_from_slice_get}
 use Rattle.air_history.specs.declared.histories.Event.{Event}
 use Rattle.air_history.specs.declared.histories.Event.TheVariants.{Commit, Start}
 use Rattle.air_history.specs.Histories.{is_start, starts}
 use Rattle.air_model.specs.Buckets.{spelling}
 use Rattle.air_model.specs.Aired.{Air, bucket_of, buckets_of, cycle_buckets, slots_at}
+use Rattle.air_model.specs.Programs.{program}
 use Rattle.air_devices.specs.Counts.{Rose}
 use Rattle.air_devices.specs.Masts.{Changes, MastState, SentBuckets, with_buckets}
 use Rattle.air_sender.specs.AirFaults.{FailedAt, IsAirAnswer, failed_slot}
@@ -23,15 +25,16 @@ use Rattle.air_base.specs.declared.verdicts.Form.{Form}
 use Rattle.air_history.specs.Boards.{Board, board_of}
 use Rattle.air_sender.specs.BoardBuckets.{IsLastBoard, board_bytes}
 use Rattle.air_sender.proofs.SendLemmas.{length_cycle}
+use Rattle.chunk_program.specs.Editions.{EditionDisks, Plans, no_disks, planned_edition}
 use Rattle.station.specs.PassStates.{PassState}
 use Rattle.cycle_snapshot.specs.SnapshotStates.{PublisherState}
 use Rattle.cycle_snapshot.proofs.BatchLemmas.{starts_append}
 use Rattle.deck_runs.proofs.CycleLemmas.{starts_head, starts_one}
-use Rattle.deck_runs.specs.Private.CycleSteps.{AddsBatch, SendsInCycle}
+use Rattle.deck_runs.specs.Private.CycleSteps.{AddsBatch, SendsCounted, SendsInCycle}
 use Rattle.deck_runs.specs.PublishedBatches.{AreInStep, GoesOn, IsPublishedUpTo, IsUpTo}
 use Rattle.deck_runs.specs.declared.jobs.conductors.ConductFault.{ConductFault}
 use Rattle.deck_runs.specs.declared.jobs.conductors.ConductFault.TheVariants as conduct
-use Rattle.deck_runs.specs.Sendings.{FailsAfter, IsAirOf, SendsCycles, SendsUpTo, bytes_aired}
+use Rattle.deck_runs.specs.Sendings.{FailsAfter, IsAirOf, SendsCycles, SendsUpTo, bytes_aired, planned_program}
 
 -- ---- what a history airs
 
@@ -79,31 +82,17 @@ seen_starts seen bs up = let none = up.rest in let both = ap starts up.begins �
 
 -- ---- how many
 
-flat_count : {X : Type 0} (f : ℕ → List X) (n : ℕ) → ((c : ℕ) → length (f c) ≡ n) → (a k : ℕ) → length (flat_map f (range_with_len a k)) ≡ k * n
-flat_count f n h a zero = sym (zero-mul n)
-flat_count f n h a (suc k) =
-    let rest = flat_count f n h (a + 1) k in
-    let both = length-append (f a) (flat_map f (range_with_len (a + 1) k)) in
-    let one = h a in
-    let more : suc k * n ≡ n + k * n = omega (arith, suc-mul k n) in
-    omega arith
+flat_count : {X : Type 0} (f : ℕ → List X) (n : ℕ → ℕ) → ((c : ℕ) → length (f c) ≡ n c) → (cs : List ℕ) → length (flat_map f cs) ≡ sum_by n cs
+flat_count f n h [] = refl
+flat_count f n h (c ∷ cs) =
+    length-append (f c) (flat_map f cs) ∙ ap (λ k. k + length (flat_map f cs)) (h c) ∙ ap (λ k. n c + k) (flat_count f n h cs) ∙ sym (sum_by-cons n c cs)
 
--- Where each cycle has as many slots a history airs so many buckets a cycle.
-pub even_bytes : (values : List ℕ) (air : Air) (n : ℕ) → ((c : ℕ) → length (slots_at air c) ≡ n) → (H : List Event) → length (bytes_aired values air H) ≡ starts H * n
+-- A history airs a bucket for each slot of its cycles.
+pub count_bytes : (values : List ℕ) (air : Air) (H : List Event) → length (bytes_aired values air H) ≡ sum_by (λ c. length (slots_at air c)) (range_with_len 1 (starts H))
 unfolding buckets_of
-even_bytes values air n even H =
+count_bytes values air H =
     length-map (buckets_of values air H) spelling
-    ∙ flat_count (cycle_buckets values air H) n (λ c. length-map-range_with_len (bucket_of values air H air.version c) 0 (length (slots_at air c)) ∙ even c) 1 (starts H)
-
--- And so beyond another.
-even_more : (values : List ℕ) (air : Air) (n k : ℕ) → ((c : ℕ) → length (slots_at air c) ≡ n) → (G H : List Event) (more : List (List ℕ)) → bytes_aired values air H ≡ bytes_aired values air G ++ more → starts H ≡ starts G + k
-    → length more ≡ k * n
-even_more values air n k even G H more aired started =
-    let both = ap length aired ∙ length-append (bytes_aired values air G) more in
-    let short = even_bytes values air n even G in
-    let long = even_bytes values air n even H in
-    let split : starts H * n ≡ starts G * n + k * n = ap (λ m. m * n) started ∙ add-mul (starts G) k n in
-    omega arith
+    ∙ flat_count (cycle_buckets values air H) (λ c. length (slots_at air c)) (λ c. length-map-range_with_len (bucket_of values air H air.version c) 0 (length (slots_at air c))) (range_with_len 1 (starts H))
 
 -- ---- what a mast tells
 
@@ -112,11 +101,6 @@ changes_more xs ys None p q a b = tt
 changes_more xs ys (Some s) p q a b =
     let both : q ≡ Some (record { buckets = (s.buckets ++ xs) ++ ys; ended = s.ended }) = subst (λ p. Changes (with_buckets ys) p q) a b in
     both ∙ ap (λ (l : List (List ℕ)). let t : SentBuckets = record { buckets = l; ended = s.ended } in Some t) (append_assoc s.buckets xs ys)
-
--- ---- a count
-
-pub few_sent : (k s n : ℕ) → k < 4294967296 → s ≤ 16384 → n < s → k * s + n < 18446744073709551616
-few_sent k s n a b c = let p : k * s ≤ 4294967296 * s = mul-le-mul_right s (omega arith) in omega arith
 
 -- ---- cycles that were sent
 
@@ -129,12 +113,23 @@ module _ (values : List ℕ) (air : Air) where
     sent = subst (λ q. Changes (with_buckets []) o q) (sym is) (sent_none o);
   }
 
+  pub counts_none : (G H : List Event) (o q : Option SentBuckets) → H ≡ G → q ≡ o → SendsCounted values air 0 0 G H o q
+  unfolding sends_none
+  counts_none G H o q same is = record { sends = sends_none G H o q same is; counted = refl }
+
   pub sends_further : (m n : ℕ) (G H K : List Event) (o p q : Option SentBuckets) → SendsCycles values air m G H o p → SendsCycles values air n H K p q → SendsCycles values air (m + n) G K o q
   sends_further m n G H K o p q a b = record {
     more = a.more ++ b.more;
     aired = b.aired ∙ ap (λ l. l ++ b.more) a.aired ∙ append_assoc (bytes_aired values air G) a.more b.more;
     started = let first = a.started in let next = b.started in omega arith;
     sent = changes_more a.more b.more o p q a.sent b.sent;
+  }
+
+  pub counts_further : (m n i j : ℕ) (G H K : List Event) (o p q : Option SentBuckets) → SendsCounted values air m i G H o p → SendsCounted values air n j H K p q → SendsCounted values air (m + n) (i + j) G K o q
+  unfolding sends_further
+  counts_further m n i j G H K o p q a b = record {
+    sends = sends_further m n G H K o p q a.sends b.sends;
+    counted = (let both = length-append a.sends.more b.sends.more in let first = a.counted in let next = b.counted in omega arith);
   }
 
   -- The lists may be told otherwise, where they start and air the same.
@@ -146,11 +141,12 @@ module _ (values : List ℕ) (air : Air) where
       → FailsAfter state values air n G H o q → FailsAfter state values air n K L o q
   fails_as state n G H K L o q same too s = record { more = s.more; aired = too ∙ s.aired ∙ ap (λ l. l ++ s.more) (sym same); failed = s.failed }
 
-  -- After so many cycles the mast failed.
-  pub fails_further : {M : Type 0} (state : M → MastState) (k s n : ℕ) → ((c : ℕ) → length (slots_at air c) ≡ n) → (G H K : List Event) (o p q : M) → SendsCycles values air k G H (state o).told (state p).told → (state p).faults ≡ (state o).faults → (state p).port ≡ (state o).port
-      → FailsAfter state values air s H K p q → FailsAfter state values air (k * n + s) G K o q
-  fails_further state k s n even G H K o p q a calm port b =
-      let count = even_more values air n k even G H a.more a.aired a.started in
+  -- After cycles of so many buckets the mast failed.
+  pub fails_further : {M : Type 0} (state : M → MastState) (k s n : ℕ) (G H K : List Event) (o p q : M) → SendsCounted values air k n G H (state o).told (state p).told → (state p).faults ≡ (state o).faults → (state p).port ≡ (state o).port
+      → FailsAfter state values air s H K p q → FailsAfter state values air (n + s) G K o q
+  fails_further state k s n G H K o p q before calm port b =
+      let count = before.counted in
+      let a = before.sends in
       let f = b.failed in
       let j = f.just_before in
       record {
@@ -159,7 +155,7 @@ module _ (values : List ℕ) (air : Air) where
         failed = record {
           within = let l = length-append a.more b.more in let w = f.within in omega arith;
           just_before = j;
-          sent = subst (λ l. Changes (with_buckets l) (state o).told (state j).told) (front a.more b.more (k * n) s count) (changes_more a.more (take s b.more) (state o).told (state p).told (state j).told a.sent f.sent);
+          sent = subst (λ l. Changes (with_buckets l) (state o).told (state j).told) (front a.more b.more n s count) (changes_more a.more (take s b.more) (state o).told (state p).told (state j).told a.sent f.sent);
           calm = f.calm ∙ calm;
           port = f.port ∙ port;
           rose = f.rose;
@@ -172,20 +168,20 @@ module _ (values : List ℕ) (air : Air) where
       front (x ∷ xs) ys zero s e = absurd (omega arith)
       front (x ∷ xs) ys (suc m) s e = let same : suc (m + s) ≡ suc m + s = omega arith in ap (λ l. x ∷ l) (front xs ys m s (omega arith)) ∙ ap (λ n. take n (x ∷ xs ++ ys)) same
 
-  -- After so many whole cycles a cycle's fault ends the job.
-  pub ends_by : {M : Type 0} (state : M → MastState) (fault : ConductFault) (k cycles n : ℕ) → k < cycles → ((c : ℕ) → length (slots_at air c) ≡ n) → (p q : PassState) (f g h : PublisherState) (o m r : M)
-      → SendsCycles values air k (batch_events f.batches) (batch_events g.batches) (state o).told (state m).told → (state m).faults ≡ (state o).faults → (state m).port ≡ (state o).port → IsUpTo 0 p.seen f.batches → IsPublishedUpTo q.seen h.batches fault
-      → SendsInCycle state values air (k * n) (batch_events g.batches) (batch_events h.batches) m r fault → SendsUpTo state values air cycles p q f h o r fault
-  ends_by state (conduct.Mast sent) k cycles n less even p q f g h o m r before calm port first now (s, is, failed) =
-      let all = fails_further state k s n even (batch_events f.batches) (batch_events g.batches) (batch_events h.batches) o m r before calm port failed in
+  -- After whole cycles of so many buckets a cycle's fault ends the job.
+  pub ends_by : {M : Type 0} (state : M → MastState) (fault : ConductFault) (k cycles n : ℕ) → k < cycles → (p q : PassState) (f g h : PublisherState) (o m r : M)
+      → SendsCounted values air k n (batch_events f.batches) (batch_events g.batches) (state o).told (state m).told → (state m).faults ≡ (state o).faults → (state m).port ≡ (state o).port → IsUpTo 0 p.seen f.batches → IsPublishedUpTo q.seen h.batches fault
+      → SendsInCycle state values air n (batch_events g.batches) (batch_events h.batches) m r fault → SendsUpTo state values air cycles p q f h o r fault
+  ends_by state (conduct.Mast sent) k cycles n less p q f g h o m r before calm port first now (s, is, failed) =
+      let all = fails_further state k s n (batch_events f.batches) (batch_events g.batches) (batch_events h.batches) o m r before calm port failed in
       subst (λ n. FailsAfter state values air n p.seen q.seen o r) (sym is)
       (fails_as state _ (batch_events f.batches) (batch_events h.batches) p.seen q.seen o r (seen_bytes values air p.seen f.batches first) (seen_bytes values air q.seen h.batches now) all)
-  ends_by state conduct.NoMemory k cycles n less even p q f g h o m r before calm port first now none =
+  ends_by state conduct.NoMemory k cycles n less p q f g h o m r before calm port first now none =
       let same : k + 0 ≡ k = omega arith in (
         k,
         less,
         subst (λ n. SendsCycles values air n (batch_events f.batches) (batch_events h.batches) (state o).told (state r).told) same
-            (sends_further k 0 (batch_events f.batches) (batch_events g.batches) (batch_events h.batches) _ _ _ before none),
+            (sends_further k 0 (batch_events f.batches) (batch_events g.batches) (batch_events h.batches) _ _ _ before.sends none),
       )
 
 -- ---- one cycle
@@ -207,37 +203,49 @@ module _ (p q : PassState) (f g : PublisherState) (b : Board) (on : GoesOn p q) 
   pub started : 1 ≤ b.cycle
   started = let c = ap (λ x. x.cycle) last in let a = starts_append front (Start ∷ []) in let one = starts_one in omega arith
 
-  module _ (air : Air) (form : Form) (slots : List (Option ℕ)) (is : IsAirOf p.values form slots air) where
-    pub last_board : IsLastBoard p.values air front form 0 slots b
+  -- the plans have this program in force in the board's cycle
+  module _ (air : Air) (form : Form) (plans : Plans) (own : EditionDisks) (is : IsAirOf p.values form plans air) (at : slice_get plans.programs (planned_edition plans b.cycle) ≡ Some own) where
+    in_force : planned_program plans (starts (front ++ Start ∷ [])) ≡ own
+    in_force =
+        let now : b.cycle ≡ starts (front ++ Start ∷ []) = ap (λ x. x.cycle) last in
+        ap (planned_program plans) (sym now) ∙ get_or_from_slice_get plans.programs (planned_edition plans b.cycle) own no_disks at
+
+    own_slots : slots_at air (starts (front ++ Start ∷ [])) ≡ program own.disks
+    own_slots = is.slots_are (starts (front ++ Start ∷ [])) ∙ ap (λ (x : EditionDisks). program x.disks) in_force
+
+    pub last_board : IsLastBoard p.values air front form own.edition (program own.disks) b
     last_board = record {
       board = last;
       items = is.items;
       policy = is.policy_is;
       version = is.version_is;
-      edition = is.edition_is (starts (front ++ Start ∷ []));
-      slots = is.slots_are (starts (front ++ Start ∷ []));
+      edition = is.edition_is (starts (front ++ Start ∷ [])) ∙ ap (λ (x : EditionDisks). x.edition) in_force;
+      slots = own_slots;
     }
 
     bytes : bytes_aired p.values air (batch_events g.batches) ≡ bytes_aired p.values air (batch_events f.batches) ++ last_bytes p.values air front
     bytes = ap (λ bs. bytes_aired p.values air (batch_events bs)) batches ∙ batch_bytes p.values air (length f.values) f.batches adds.0 adds.2
 
     -- all of its buckets were sent
-    pub cycle_sent : (o q : Option SentBuckets) → Changes (with_buckets (last_bytes p.values air front)) o q → SendsCycles p.values air 1 (batch_events f.batches) (batch_events g.batches) o q
-    cycle_sent o q sent = record {
-      more = last_bytes p.values air front;
-      aired = bytes;
-      started = (let all = ap starts ends ∙ starts_append front (Start ∷ []) in let before = starts_append (batch_events f.batches) adds.2.ends.0 in let none = adds.2.ends.2 in let one = starts_one in omega arith);
-      sent = sent;
+    pub cycle_sent : (n : ℕ) (o q : Option SentBuckets) → n ≡ length (program own.disks) → Changes (with_buckets (last_bytes p.values air front)) o q → SendsCounted p.values air 1 n (batch_events f.batches) (batch_events g.batches) o q
+    cycle_sent n o q count sent = record {
+      sends = record {
+        more = last_bytes p.values air front;
+        aired = bytes;
+        started = (let all = ap starts ends ∙ starts_append front (Start ∷ []) in let before = starts_append (batch_events f.batches) adds.2.ends.0 in let none = adds.2.ends.2 in let one = starts_one in omega arith);
+        sent = sent;
+      };
+      counted = length_last p.values air front ∙ ap length own_slots ∙ sym count;
     }
 
     -- or those before the one at which the mast failed
     pub cycle_failed : {M : Type 0} (state : M → MastState) (slot : ℕ) (before now : M) → Changes (with_buckets (take slot (last_bytes p.values air front))) (state before).told (state now).told
-        → FailedAt state slot (board_bytes form 0 slots b) before now → FailsAfter state p.values air slot (batch_events f.batches) (batch_events g.batches) before now
+        → FailedAt state slot (board_bytes form own.edition (program own.disks) b) before now → FailsAfter state p.values air slot (batch_events f.batches) (batch_events g.batches) before now
     cycle_failed state slot before now sent failed = record {
       more = last_bytes p.values air front;
       aired = bytes;
       failed = record {
-        within = let w = failed.within in let n = length_cycle form 0 slots b in let m = length_last p.values air front in let s = ap length (is.slots_are (starts (front ++ Start ∷ []))) in omega arith;
+        within = let w = failed.within in let n = length_cycle form own.edition (program own.disks) b in let m = length_last p.values air front in let s = ap length own_slots in omega arith;
         just_before = failed.just_before;
         sent = subst (Changes (with_buckets (take slot (last_bytes p.values air front))) (state before).told) failed.kept sent;
         calm = failed.calm;
@@ -248,12 +256,12 @@ module _ (p q : PassState) (f g : PublisherState) (b : Board) (on : GoesOn p q) 
     }
 
     pub cycle_failed_by : {M : Type 0} (state : M → MastState) (e : AirFault) (n : ℕ) (before now : M) → n ≡ failed_slot e → Changes (with_buckets (take (failed_slot e) (last_bytes p.values air front))) (state before).told (state now).told
-        → IsAirAnswer state (board_bytes form 0 slots b) before now e → FailsAfter state p.values air n (batch_events f.batches) (batch_events g.batches) before now
+        → IsAirAnswer state (board_bytes form own.edition (program own.disks) b) before now e → FailsAfter state p.values air n (batch_events f.batches) (batch_events g.batches) before now
     cycle_failed_by state (fault.Mast slot) n before now is sent failed =
         subst (λ m. FailsAfter state p.values air m (batch_events f.batches) (batch_events g.batches) before now) (sym is) (cycle_failed state slot before now sent failed)
 
-pub within_cycle : {M : Type 0} (state : M → MastState) (form : Form) (slots : List (Option ℕ)) (b : Board) (e : AirFault) (n : ℕ) (before now : M) → n ≡ failed_slot e → IsAirAnswer state (board_bytes form 0 slots b) before now e → n < length slots
-within_cycle state form slots b (fault.Mast slot) n before now is failed = let w = failed.within in let l = length_cycle form 0 slots b in omega arith
+pub within_cycle : {M : Type 0} (state : M → MastState) (form : Form) (edition : ℕ) (slots : List (Option ℕ)) (b : Board) (e : AirFault) (n : ℕ) (before now : M) → n ≡ failed_slot e → IsAirAnswer state (board_bytes form edition slots b) before now e → n < length slots
+within_cycle state form edition slots b (fault.Mast slot) n before now is failed = let w = failed.within in let l = length_cycle form edition slots b in omega arith
 
 pub rose_by : {M : Type 0} (state : M → MastState) (bs : List (List ℕ)) (e : AirFault) (before now : M) → IsAirAnswer state bs before now e → Rose (state before).faults (state now).faults
 rose_by state bs (fault.Mast slot) before now failed = subst (λ n. Rose n (state now).faults) failed.calm failed.rose

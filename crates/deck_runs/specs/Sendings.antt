@@ -1,5 +1,5 @@
 -- What a conductor sends: the buckets of the history that its pass has seen.
-use Rattle.std.specs.Prelude.{◌≡◌, ◌⊎◌, ℕ, ◌+◌, ◌*◌, ◌<◌, ◌≤◌, List, ◌++◌, length, map, Option}
+use Rattle.std.specs.Prelude.{◌≡◌, ◌⊎◌, ℕ, ◌+◌, ◌*◌, ◌<◌, ◌≤◌, List, ◌++◌, get_or, length, map, Option}
 use Rattle.air_base.specs.declared.limits.TheConstants.{MOST_FULL_ITEMS}
 use Rattle.air_base.specs.declared.verdicts.Form.{Form}
 use Rattle.air_history.specs.declared.histories.Event.{Event}
@@ -7,8 +7,8 @@ use Rattle.air_history.specs.Histories.{starts}
 use Rattle.air_model.specs.Buckets.{entry_len, spelling}
 use Rattle.air_model.specs.Aired.{Air, air_of, buckets_of, edition_at, slots_at}
 use Rattle.air_model.specs.Decks.{Deck, values_in}
-use Rattle.air_model.specs.Disks.{Disk, all_items}
 use Rattle.bucket_codec.specs.declared.offsets.TheConstants.{HEAD_BYTES}
+use Rattle.chunk_program.specs.Editions.{EditionDisks, HaveItems, Plans, no_disks, planned_edition, planned_slots}
 use Rattle.air_devices.specs.Counts.{Rose}
 use Rattle.air_devices.specs.Masts.{Changes, MastState, SentBuckets, with_buckets}
 use Rattle.air_sender.specs.AirFaults.{FailedAt}
@@ -22,21 +22,25 @@ use Rattle.deck_runs.specs.declared.jobs.conductors.ConductFault.TheVariants as 
 abbrev pub bytes_aired : List ℕ → Air → List Event → List (List ℕ)
 bytes_aired values air H = map spelling (buckets_of values air H)
 
--- A bucket of these values can be made in this form: the disks have as many items as there are values, in version 1 no more than a bucket
+-- A bucket of these values can be made in this form: each program has as many items as there are values, in version 1 no more than a bucket
 -- with entries in full has, and for its bytes there is this room.
-pub record CanAirIn (form : Form) (values : List ℕ) (disks : List Disk) (room : ℕ) : Type 0 where
+pub record CanAirIn (form : Form) (values : List ℕ) (plans : Plans) (room : ℕ) : Type 0 where
   pub version : (form.version ≡ 1) ⊎ (form.version ≡ 2)
-  pub items : length (all_items disks) ≡ length values
+  pub items : HaveItems (length values) plans.programs
   pub few : form.version ≡ 1 → length values ≤ MOST_FULL_ITEMS
   pub buffer : HEAD_BYTES + entry_len form.version * length values ≤ room
 
--- What is aired of these values in this form: each cycle is of edition 0 and has these slots.
-pub record IsAirOf (values : List ℕ) (form : Form) (slots : List (Option ℕ)) (air : Air) : Type 0 where
+-- The program in force in a cycle.
+abbrev pub planned_program : Plans → ℕ → EditionDisks
+planned_program plans c = get_or plans.programs (planned_edition plans c) no_disks
+
+-- What is aired of these values in this form: each cycle has the edition and the slots of the program in force in it.
+pub record IsAirOf (values : List ℕ) (form : Form) (plans : Plans) (air : Air) : Type 0 where
   pub items : air.items ≡ length values
   pub policy_is : air.scheme.policy ≡ form.policy
   pub version_is : air.version ≡ form.version
-  pub edition_is : (c : ℕ) → edition_at air c ≡ 0
-  pub slots_are : (c : ℕ) → slots_at air c ≡ slots
+  pub edition_is : (c : ℕ) → edition_at air c ≡ (planned_program plans c).edition
+  pub slots_are : (c : ℕ) → slots_at air c ≡ planned_slots plans c
 
 -- The longer list starts so many cycles more, and what it airs beyond the shorter was sent, and nothing else.
 pub record SendsCycles (values : List ℕ) (air : Air) (cycles : ℕ) (G H : List Event) (before now : Option SentBuckets) : Type 0 where

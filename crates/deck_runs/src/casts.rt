@@ -21,7 +21,13 @@ use std::thread::Threads;
 fn bucket_count(planned: &Planned) -> u64
     ensures { result ≡ bucket_count planned.now }
 {
-    u64::from(planned.program().slots()) * u64::from(planned.deck().settings().cycles)
+    let plans = planned.plans();
+    let cycles = planned.deck().settings().cycles;
+    let mut count = 0u64;
+    for done in 0..cycles {
+        count += u64::from(plans.in_force(done + 1).slots());
+    }
+    count
 }
 
 /// Sends the end behind so many buckets.

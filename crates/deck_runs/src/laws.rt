@@ -1,20 +1,19 @@
 //! The laws of runs on the air, each carried by a function that does nothing.
 
-ghost use Rattle.std.specs.Prelude.{◌≡◌, ◌≤◌, length};
-ghost use Rattle.air_base.specs.declared.limits.TheConstants.{MOST_SLOTS};
-ghost use Rattle.air_model.specs.Decks.{Deck, IsDeck, disks_in};
+ghost use Rattle.std.specs.Prelude.{◌≡◌, length};
+ghost use Rattle.air_model.specs.Decks.{Deck, IsDeck};
 ghost use Rattle.air_model.specs.Outputs.{run_tape};
-ghost use Rattle.air_model.specs.Programs.{program};
-ghost use Rattle.item_catalog.specs.DeckLimits.{WithinLimits};
 ghost use Rattle.air_model.specs.Runs.{IsRun, Run};
+ghost use Rattle.chunk_program.specs.Plans.{AreShort};
+ghost use Rattle.item_catalog.specs.DeckLimits.{WithinLimits};
 ghost use Rattle.deck_runs.specs.RunTapes.{run_tape_len};
 ghost use Rattle.deck_runs.specs.RunTruths.{IsTrueRun};
 
 use air_report::one_history_law;
 
-/// What is true of every run of a deck of the grammar whose program is short enough.
+/// What is true of every run of a deck of the grammar whose programs are short enough.
 pub fn true_run_law()
-    ensures { (deck : Deck) (run : Run) → IsDeck deck → WithinLimits deck → length (program (disks_in deck 0)) ≤ MOST_SLOTS →
+    ensures { (deck : Deck) (run : Run) → IsDeck deck → WithinLimits deck → AreShort deck →
         IsRun deck run → IsTrueRun deck run }
 {
     one_history_law();

@@ -14,7 +14,7 @@ pub(crate) fn run_bytes(planned: &Planned) -> u64
 {
     let deck = planned.deck();
     let cycles = deck.settings().cycles;
-    tape_bytes(planned.program(), deck.items(), cycles, own_form(planned))
+    tape_bytes(planned.plans(), deck.items(), cycles, own_form(planned))
 }
 
 /// How many bytes the tape of each run of a deck would have, where that is more than a tape may have.

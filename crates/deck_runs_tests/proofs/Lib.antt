@@ -1,1 +1,1 @@
-pub mod AiredItems
+pub mod EntryBytes

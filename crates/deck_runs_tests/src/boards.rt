@@ -29,12 +29,17 @@ pub fn end_of(alloc: Global, board: &Board) -> Result<BoardEnd, NoMemory> {
     })
 }
 
-/// The board of two items with these values, to which both were written before all cycles: all its entries are 0.
-pub fn written_early(alloc: Global, cycle: u32, values: [u64; 2]) -> Result<BoardEnd, NoMemory> {
+/// The board of items with these values, none of which was written after a cycle: all its entries are 0.
+pub fn written_early(alloc: Global, cycle: u32, values: &[u64]) -> Result<BoardEnd, NoMemory> {
+    let vector = vec![in alloc; 0; values.len()]?;
+    let mut columns = Vec::new(alloc);
+    for _value in values {
+        columns.extend_from_slice(&vector)?;
+    }
     Ok(BoardEnd {
         cycle,
-        values: Vec::from_slice(alloc, &values)?,
-        columns: vec![in alloc; 0; 4]?,
-        vector: vec![in alloc; 0; 2]?,
+        values: Vec::from_slice(alloc, values)?,
+        columns,
+        vector,
     })
 }

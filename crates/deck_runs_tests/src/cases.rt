@@ -3,7 +3,7 @@
 ghost use Rattle.std.specs.Prelude.{◌≤◌, length};
 ghost use Rattle.air_base.specs.declared.limits.TheConstants.{MOST_DECK_BYTES};
 
-use crate::decks::{BucketRow, tape_of};
+use crate::decks::{BucketRow, EditionRow, tape_of, tape_of_three};
 use crate::plays::{RunAndMast, play};
 use air_devices::Gate;
 use air_history::{Event, History};
@@ -42,6 +42,8 @@ pub struct RunLines<'a> {
 pub enum Tape<'a> {
     /// Its buckets.
     Buckets(&'a [BucketRow]),
+    /// Its buckets, with the edition of each.
+    Editions(&'a [EditionRow]),
     /// How many bytes it has.
     Bytes(usize),
 }
@@ -166,6 +168,10 @@ fn other_on(alloc: Global, tape: &[u8], told: Tape<'_>) -> Result<Option<Other>,
     match told {
         Tape::Buckets(buckets) => {
             let told = tape_of(alloc, buckets)?;
+            Ok(other_byte(tape, &told))
+        }
+        Tape::Editions(buckets) => {
+            let told = tape_of_three(alloc, buckets)?;
             Ok(other_byte(tape, &told))
         }
         Tape::Bytes(bytes) if tape.len() == bytes => Ok(None),

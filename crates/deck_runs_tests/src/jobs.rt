@@ -6,18 +6,19 @@
 ghost use Rattle.std.specs.Prelude.{◌≡◌, ◌<◌, ◌≤◌, ◌+◌, ◌*◌, [], length, IfOk};
 ghost use Rattle.air_base.specs.declared.limits.TheConstants.{MOST_DECK_BYTES};
 ghost use Rattle.air_history.specs.Boards.{board_of};
-ghost use Rattle.air_model.specs.Decks.{disks_in, values_in};
+ghost use Rattle.air_model.specs.Decks.{values_in};
 ghost use Rattle.bucket_codec.specs.declared.offsets.TheConstants.{ENTRY_BYTES, HEAD_BYTES};
+ghost use Rattle.chunk_program.specs.Editions.{plans_in};
 ghost use Rattle.cycle_snapshot.specs.SnapshotStates.{new_publisher};
 ghost use Rattle.station.specs.PassStates.{new_pass};
 
 use crate::boards::{BoardEnd, end_of, written_early};
-use crate::decks::{BucketRow, MEETING, tape_of};
+use crate::decks::{BucketRow, CHANGING, CHANGING_TAPE, MEETING, tape_of, tape_of_three};
 use air_base::{Form, NoMemory};
 use air_devices::{MemMast, OpenGate};
 use air_model::reports::LookLine;
 use bucket_codec::offsets::{ENTRY_BYTES, HEAD_BYTES};
-use chunk_program::{Program, cut};
+use chunk_program::Plans;
 use control_matrix::Board;
 use cycle_snapshot::{Monitor, Publisher, publisher};
 use deck_runs::{ConductFault, conductor_job, monitor_job, updater_job};
@@ -84,7 +85,7 @@ fn conduct<R: Wait>(
     alloc: Global,
     station: &Station,
     deck: &Deck,
-    program: &Program,
+    plans: &Plans,
     source: &mut Publisher,
     conductor: &mut Conductor,
 ) -> Result<(), ConductFault>
@@ -92,7 +93,7 @@ fn conduct<R: Wait>(
     requires board { conductor.old.board ≡ board_of (values_in deck.now) [] }
     requires buffer { HEAD_BYTES + ENTRY_BYTES * length deck.now.items ≤ length conductor.old.buf.items }
     requires publisher { source.old ≡ new_publisher source.old.id (values_in deck.now) deck.now.settings.cycles }
-    requires program { program.now ≡ disks_in deck.now 0 }
+    requires plans { plans.now ≡ plans_in deck.now }
 {
     deck.shows_well_made();
     let settings = deck.settings();
@@ -107,7 +108,7 @@ fn conduct<R: Wait>(
         &mut conductor.pass,
         source,
         &mut conductor.board,
-        program,
+        plans,
         form,
         settings.cycles,
         &mut conductor.mast,
@@ -122,7 +123,7 @@ fn work<R: Wait>(
     alloc: Global,
     station: &Station,
     deck: &Deck,
-    program: &Program,
+    plans: &Plans,
     source: &mut Publisher,
     monitors: &mut Vec<Monitor>,
     updater: &mut UpdaterPass,
@@ -134,14 +135,14 @@ fn work<R: Wait>(
     requires board { conductor.old.board ≡ board_of (values_in deck.now) [] }
     requires buffer { HEAD_BYTES + ENTRY_BYTES * length deck.now.items ≤ length conductor.old.buf.items }
     requires publisher { source.old ≡ new_publisher source.old.id (values_in deck.now) deck.now.settings.cycles }
-    requires program { program.now ≡ disks_in deck.now 0 }
+    requires plans { plans.now ≡ plans_in deck.now }
 {
     let Some(mut monitor) = monitors.pop() else {
         return Ok(None);
     };
     let first = monitor_job(&mut monitor, 2, &OpenGate)?;
     let made = update(wait, alloc, station, deck, updater)?;
-    let conducted = conduct(wait, alloc, station, deck, program, source, conductor);
+    let conducted = conduct(wait, alloc, station, deck, plans, source, conductor);
     let last = monitor_job(&mut monitor, 100, &OpenGate)?;
     Ok(Some(JobsEnd {
         conducted,
@@ -186,8 +187,7 @@ fn left_by_jobs<R: Wait>(
     requires { length text.now ≤ MOST_DECK_BYTES }
 {
     let deck = read_deck(alloc, text)?;
-    let order = cut(alloc, &deck)?;
-    let program = Program::plan(alloc, &deck, &order)?;
+    let plans = Plans::plan(alloc, &deck)?;
     let values = first_values(alloc, &deck)?;
     let (station, mut passes, pass) = Station::new(alloc, &deck)?;
     let Some(mut updater) = passes.pop() else {
@@ -202,7 +202,7 @@ fn left_by_jobs<R: Wait>(
         alloc,
         &station,
         &deck,
-        &program,
+        &plans,
         &mut source,
         &mut monitors,
         &mut updater,
@@ -240,7 +240,7 @@ fn each_job_is_done_where_memory_is_ample(rt: HostRuntime) -> Result<(), Fail> {
         started: 3,
         first: line(0, 30),
         last: line(3, 27),
-        board: written_early(rt.alloc(), 3, [11, 16])?,
+        board: written_early(rt.alloc(), 3, &[11, 16])?,
         tape: tape_of(rt.alloc(), &JOBS_TAPE)?,
     };
     assert_eq!(rt; left, Some(wanted));
@@ -258,8 +258,24 @@ fn where_the_mast_has_no_room_the_conductor_tells_what_was_sent(
         started: 2,
         first: line(0, 30),
         last: line(2, 27),
-        board: written_early(rt.alloc(), 2, [11, 16])?,
+        board: written_early(rt.alloc(), 2, &[11, 16])?,
         tape: tape_of(rt.alloc(), &JOBS_TAPE[..3])?,
+    };
+    assert_eq!(rt; left, Some(wanted));
+    Ok(())
+}
+
+#[test]
+fn the_conductor_counts_the_buckets_of_both_editions(rt: HostRuntime) -> Result<(), Fail> {
+    let left = left_by_jobs(&rt, rt.alloc(), CHANGING, 239)?;
+    let wanted = JobsEnd {
+        conducted: Err(ConductFault::Mast { sent: 5 }),
+        made: 1,
+        started: 2,
+        first: line(0, 60),
+        last: line(2, 61),
+        board: written_early(rt.alloc(), 2, &[11, 20, 30])?,
+        tape: tape_of_three(rt.alloc(), &CHANGING_TAPE[..5])?,
     };
     assert_eq!(rt; left, Some(wanted));
     Ok(())

@@ -5,7 +5,7 @@ ghost use Rattle.air_base.specs.declared.limits.TheConstants.{MOST_DECK_BYTES};
 
 use air_devices::Gate;
 use air_sender::TapeMast;
-use chunk_program::{Planned, cut};
+use chunk_program::Planned;
 use deck_runs::{Run, RunFault, run_threads};
 use item_catalog::read_deck;
 use std::alloc::Global;
@@ -31,8 +31,7 @@ pub fn play<R: Threads + Wait + Sync, G: Gate + Sync>(
     requires { length text.now ≤ MOST_DECK_BYTES }
 {
     let deck = read_deck(alloc, text)?;
-    let order = cut(alloc, &deck)?;
-    let planned = Planned::new(alloc, deck, &order)?;
+    let planned = Planned::new(alloc, deck)?;
     let mut mast = TapeMast::new(alloc, room)?;
     let run = run_threads(rt, alloc, &planned, &mut mast, gate);
     Ok(RunAndMast { run, mast })

@@ -3,12 +3,14 @@
 pub(crate) mod ends;
 pub(crate) mod limits;
 pub(crate) mod names;
+pub(crate) mod replans;
 pub(crate) mod settings;
 pub(crate) mod slips;
 
 use crate::decks::ends::end_note;
 use crate::decks::limits::{overdrawn_note, total_note};
 use crate::decks::names::{id_note, twice_note, undeclared_note, unread_note};
+use crate::decks::replans::lengths_note;
 use crate::decks::settings::setting_note;
 use crate::decks::slips::slip_note;
 use crate::records::before::RecordsBefore;
@@ -24,7 +26,7 @@ use item_catalog::DeckFault;
 use std::alloc::Global;
 
 /// The tags of a deck's records.
-const TAGS: &str = "item, disk, update, reader, query, script and set";
+const TAGS: &str = "item, disk, replan, update, reader, query, script and set";
 
 /// Of whom a note on a record tells.
 fn subject_of<'a>(before: &RecordsBefore, record: &'a Record, known: TaggedForm) -> Sentence<'a> {
@@ -32,6 +34,7 @@ fn subject_of<'a>(before: &RecordsBefore, record: &'a Record, known: TaggedForm)
     let (wording, number) = match known.tag {
         RecordTag::Item if read_u64(text.as_bytes()).is_some() => ("#name# #text# ", 0),
         RecordTag::Disk => ("#name# #first# ", before.disks),
+        RecordTag::Replan => ("#name# #first# ", before.edition()),
         RecordTag::Reader => ("#name# #first# ", before.readers),
         _ => ("the #name# ", 0),
     };
@@ -51,6 +54,7 @@ fn sentence_of<'a>(found: &'a FoundRecord, known: TaggedForm, kind: u8) -> Optio
         8 => unread_note(record),
         10 => setting_note(before, record),
         11 => overdrawn_note(before, record),
+        13 => Some(lengths_note(record)),
         _ => None,
     }
 }

@@ -1,7 +1,7 @@
 -- No kind of fault applies to the declarations of a deck that is well made and within the limits.
 use Rattle.std.proofs.Common.{◌≡◌, ◌⊎◌, ◌<◌, ◌≤◌, ◌+◌, ◌^◌, ◌++◌, ◌∷◌, [], ℕ, Bool, List, Some, None, true, false, if◌then◌else◌, inl, inr, not, refl, sym, ap, ◌∙◌, length, map, nat_le, nat_lt, subst, arith, length-append}
 use Rattle.std.specs.Prelude.{◌==◌, ◌||◌, All, sum_by}
-use Rattle.std.specs.List.{enumerate_from}
+use Rattle.std.specs.List.{enumerate_from, list_any}
 use Rattle.std.proofs.lemmas.List.{length-map}
 use Rattle.std.proofs.lemmas.List.Elements.{All-head, All-tail}
 use Rattle.std.proofs.lemmas.List.FromFn.{length-enumerate_from}
@@ -13,18 +13,19 @@ use Rattle.air_model.specs.Disks.{DiskSpec}
 use Rattle.air_model.specs.Decks.{Deck, IsDeck, IsQuery, Item}
 use Rattle.air_model.specs.Buckets.{has_ages, most_count}
 use Rattle.item_catalog.specs.ListTests.{reaches}
+use Rattle.item_catalog.specs.Parts.{ReplanSaid}
 use Rattle.item_catalog.specs.RecordKinds.{first_of}
 use Rattle.item_catalog.specs.Declarations as e
 use Rattle.item_catalog.specs.DeckLimits.{DiskWithin, ReaderWithin, SettingsWithin, WithinLimits}
 use Rattle.item_catalog.specs.Private.Drafts.{DraftValue, draft_of, with_declaration}
-use Rattle.item_catalog.specs.Faults.{end_tests, query_tests}
+use Rattle.item_catalog.specs.Faults.{differs_from, end_tests, query_tests}
 use Rattle.item_catalog.specs.Ranges.{outside}
 use Rattle.item_catalog.specs.declared.faults.FaultKind.TheVariants as fault
-use Rattle.item_catalog.specs.declared.parts.DiskPart.{DiskPart}
-use Rattle.item_catalog.specs.DeckTexts.{all_set, deck_declarations, disk_declaration, item_declaration, query_declarations, reader_declaration, update_declarations}
+use Rattle.item_catalog.specs.DeckTexts.{all_set, deck_declarations, disk_declaration, item_declaration, query_declarations, reader_declaration, replan_declaration, update_declarations}
 use Rattle.item_catalog.proofs.DraftSteps.{Passes, passes_both, with_all}
-use Rattle.item_catalog.proofs.DeckDrafts.{after_disks, after_items, after_queries, after_readers, after_updates, all_queries_added, all_updates_added, disk_part, disk_parts, disks_added, item_part, item_parts, items_added, more_updaters, readers_added}
+use Rattle.item_catalog.proofs.DeckDrafts.{after_disks, after_items, after_queries, after_readers, after_replans, after_updates, all_queries_added, all_updates_added, disk_part, disk_parts, disks_added, item_part, item_parts, items_added, more_updaters, readers_added, replan_parts, replans_added}
 use Rattle.item_catalog.proofs.TestLemmas.{all_reached, neither, none_one, none_three, none_two, not_less, not_outside, not_reached}
+use Rattle.item_catalog.proofs.ReplanTests.{Aired, adds_up, none_differs, replans_pass, some_disk}
 use Rattle.item_catalog.proofs.UpdateTests.{updates_pass}
 use Rattle.item_catalog.proofs.ScriptTests.{committed, script_none, small_events}
 
@@ -42,9 +43,6 @@ items_pass (i ∷ items) d k at few values rates =
       items_pass items (with_declaration d (item_declaration (k, i))) (k + 1) (omega (arith, length-append d.items (record { value = i.value; rate = i.rate } ∷ []))) (omega arith)
           (All-tail (λ (i : Item). i.value < 2 ^ 64) i items values) (All-tail (λ (i : Item). i.rate ≤ MOST_RATE) i items rates),
     )
-
-abbrev Aired : DiskSpec → Type 0
-Aired disk = (0 < disk.size) × (0 < disk.freq)
 
 disks_pass : (disks : List DiskSpec) (d : DraftValue) → length d.disks + length disks ≤ MOST_DISKS → All Aired disks → All DiskWithin disks → Passes d (map disk_declaration disks)
 disks_pass [] d few aired within = tt
@@ -129,15 +127,6 @@ set_passes deck known w =
 
 -- ---- the end
 
-sizes_same : (disks : List DiskSpec) → sum_by (λ (d : DiskPart). d.size) (map disk_part disks) ≡ sum_by (λ (d : DiskSpec). d.size) disks
-sizes_same [] = refl
-sizes_same (disk ∷ disks) =
-    sum_by-cons (λ (d : DiskPart). d.size) (disk_part disk) (map disk_part disks) ∙ ap (λ s. disk.size + s) (sizes_same disks) ∙ sym (sum_by-cons (λ (d : DiskSpec). d.size) disk disks)
-
-some_disk : (disks : List DiskSpec) → 0 < sum_by (λ (d : DiskSpec). d.size) disks → 0 < length disks
-some_disk [] some = absurd (omega arith)
-some_disk (disk ∷ disks) some = omega arith
-
 -- ---- the whole deck
 
 module _ (deck : Deck) (made : IsDeck deck) (within : WithinLimits deck) where
@@ -154,17 +143,18 @@ module _ (deck : Deck) (made : IsDeck deck) (within : WithinLimits deck) where
   pub few_queries : length deck.queries ≤ MOST_READERS
   few_queries = let few = within.readers in let same = made.readers in omega arith
 
-  pub end_none : first_of (end_tests (length (item_parts deck)) (disk_parts deck) (all_set deck.settings)) ≡ None
+  pub end_none : first_of (end_tests (length (item_parts deck)) (disk_parts deck) (replan_parts deck) (all_set deck.settings)) ≡ None
   end_none =
-      let n = length (item_parts deck) in let sum = sum_by (λ (d : DiskPart). d.size) (disk_parts deck) in
+      let n = length (item_parts deck) in
+      let own = differs_from n (disk_parts deck) in let other = list_any (λ (r : ReplanSaid). differs_from n r.disks) (replan_parts deck) in
       let some = made.some in let whole = made.sizes 0 (omega arith) in
-      let sizes : (sum == n) ≡ true = let same : sum ≡ n = sizes_same deck.disks ∙ whole ∙ sym items_long in grind arith in
+      let sizes : (own || other) ≡ false = neither own other (adds_up deck made within n deck.disks (whole ∙ sym items_long)) (none_differs deck made within n items_long) in
       let items : (n == 0) ≡ false = let more : 0 < n = omega (arith, items_long) in grind arith in
       let disks : (length (disk_parts deck) == 0) ≡ false =
       let more : 0 < length (disk_parts deck) = omega (arith, length-map deck.disks disk_part, some_disk deck.disks (omega arith)) in grind arith in
       let most = most_count deck.settings.version in
       let many : nat_lt most n ≡ false = not_less most n (let few = made.most in omega (arith, items_long)) in
-      none_two fault.Sizes fault.Limit (not (sum == n)) (n == 0 || length (disk_parts deck) == 0 || nat_lt most n) (ap not sizes)
+      none_two fault.Sizes fault.Limit (own || other) (n == 0 || length (disk_parts deck) == 0 || nat_lt most n) sizes
       (neither (n == 0 || length (disk_parts deck) == 0) (nat_lt most n) (neither (n == 0) (length (disk_parts deck) == 0) items disks) many)
 
   pub deck_passes : Passes (draft_of []) (deck_declarations deck)
@@ -176,7 +166,8 @@ module _ (deck : Deck) (made : IsDeck deck) (within : WithinLimits deck) where
       let q = query_declarations 0 deck.queries ++ last in
       let r = map reader_declaration deck.readers ++ q in
       let u = update_declarations 0 deck.updates ++ r in
-      let s = map disk_declaration deck.disks ++ u in
+      let p = map replan_declaration deck.replans ++ u in
+      let s = map disk_declaration deck.disks ++ p in
       let end : Passes (after_queries deck) last =
       (small_events deck.script known, script_none deck.updates (more_updaters deck) deck.script known made.script within.script within.starts, set_passes deck made.version within.settings) in
       let at_queries : Passes (after_readers deck) q = passes_both (after_readers deck) (query_declarations 0 deck.queries) last
@@ -184,9 +175,11 @@ module _ (deck : Deck) (made : IsDeck deck) (within : WithinLimits deck) where
       (subst (λ d. Passes d last) (sym (all_queries_added deck few_queries)) end) in
       let at_readers : Passes (after_updates deck) r = passes_both (after_updates deck) (map reader_declaration deck.readers) q
       (readers_pass deck.readers (after_updates deck) (omega arith) made.tries within.reader) (subst (λ d. Passes d q) (sym (readers_added deck)) at_queries) in
-      let at_updates : Passes (after_disks deck) u = passes_both (after_disks deck) (update_declarations 0 deck.updates) r
-      (updates_pass n few deck.updates (after_disks deck) 0 items_long (omega arith) (omega arith) made.updates) (subst (λ d. Passes d r) (sym (all_updates_added deck updaters)) at_readers) in
-      let at_disks : Passes (after_items deck) s = passes_both (after_items deck) (map disk_declaration deck.disks) u
-      (disks_pass deck.disks (after_items deck) (omega arith) (made.aired 0 (omega arith)) within.disk) (subst (λ d. Passes d u) (sym (disks_added deck)) at_updates) in
+      let at_updates : Passes (after_replans deck) u = passes_both (after_replans deck) (update_declarations 0 deck.updates) r
+      (updates_pass n few deck.updates (after_replans deck) 0 items_long (omega arith) (omega arith) made.updates) (subst (λ d. Passes d r) (sym (all_updates_added deck updaters)) at_readers) in
+      let at_replans : Passes (after_disks deck) p = passes_both (after_disks deck) (map replan_declaration deck.replans) u
+      (replans_pass deck made within (after_disks deck) refl refl) (subst (λ d. Passes d u) (sym (replans_added deck)) at_updates) in
+      let at_disks : Passes (after_items deck) s = passes_both (after_items deck) (map disk_declaration deck.disks) p
+      (disks_pass deck.disks (after_items deck) (omega arith) (made.aired 0 (omega arith)) within.disk) (subst (λ d. Passes d p) (sym (disks_added deck)) at_replans) in
       passes_both (draft_of []) (map item_declaration (enumerate_from 0 deck.items)) s
       (items_pass deck.items (draft_of []) 0 refl (omega arith) made.values within.rates) (subst (λ d. Passes d s) (sym (items_added deck)) at_disks)

@@ -54,6 +54,7 @@ pub record WriteFits (w : Write) : Type 0 where
 abbrev pub Fits : Declaration → Type 0
 Fits (e.DeclaredItem id value rate) = (id < 2 ^ 64) × (value < 2 ^ 64) × (rate < 2 ^ 64)
 Fits (e.DeclaredDisk size freq) = (size < 2 ^ 64) × SmallNumber freq
+Fits (e.DeclaredReplan cycle sizes freqs) = (cycle < 2 ^ 64) × All (λ s. s < 2 ^ 64) sizes × All SmallNumber freqs
 Fits (e.DeclaredUpdate by reads writes) = (by < 2 ^ 64) × All (λ r. r < 2 ^ 64) reads × All WriteFits writes
 Fits (e.DeclaredReader room age tries) = (room < 2 ^ 64) × (age < 2 ^ 64) × (tries < 2 ^ 64)
 Fits (e.DeclaredQuery reader items) = (reader < 2 ^ 64) × All (λ i. i < 2 ^ 64) items
@@ -143,6 +144,10 @@ event_part : (event : Option ℕ) → SmallNumber event → IsPart (event_text e
 event_part None small = is_part (115 ∷ []) (omega arith) refl
 event_part (Some k) small = is_part (number_text k) (digits k small).0 (number_no_space k small)
 
+freq_part : (freq : Option ℕ) → SmallNumber freq → IsPart (freq_text freq)
+freq_part None small = is_part (45 ∷ []) (omega arith) refl
+freq_part (Some k) small = is_part (number_text k) (digits k small).0 (number_no_space k small)
+
 -- A list of what spells itself.
 module _ {A : Type 0} (Small : A → Type 0) (text : A → List ℕ) (value : List ℕ → Option A)
     (spelled : (x : A) → Small x → value (text x) ≡ Some x) (part : (x : A) → Small x → IsPart (text x)) where
@@ -162,6 +167,9 @@ writes_spelled ws all = list_spelled WriteFits write_text spelled_write write_sp
 
 events_spelled : (events : List (Option ℕ)) → All SmallNumber events → list_of spelled_event (list_text (map event_text events)) ≡ Some events
 events_spelled events all = list_spelled SmallNumber event_text spelled_event event_spelled event_part events all
+
+freqs_spelled : (freqs : List (Option ℕ)) → All SmallNumber freqs → list_of freq_of (list_text (map freq_text freqs)) ≡ Some freqs
+freqs_spelled freqs all = list_spelled SmallNumber freq_text freq_of freq_spelled freq_part freqs all
 
 -- ---- settings
 
@@ -205,6 +213,7 @@ set_spelled (setting.Number name k) range = number_set name k range
 pub declaration_spelled : (x : Declaration) → Fits x → spelled_declaration (declaration_row x) ≡ Ok x
 declaration_spelled (e.DeclaredItem id value rate) fits = rw (text_spells id fits.0, text_spells value fits.1, text_spells rate fits.2) refl
 declaration_spelled (e.DeclaredDisk size freq) fits = rw (text_spells size fits.0, freq_spelled freq fits.1) refl
+declaration_spelled (e.DeclaredReplan cycle sizes freqs) fits = rw (text_spells cycle fits.0, list_text_spells sizes fits.1, freqs_spelled freqs fits.2) refl
 declaration_spelled (e.DeclaredUpdate by reads writes) fits = rw (text_spells by fits.0, list_text_spells reads fits.1, writes_spelled writes fits.2) refl
 declaration_spelled (e.DeclaredReader room age tries) fits = rw (text_spells room fits.0, text_spells age fits.1, text_spells tries fits.2) refl
 declaration_spelled (e.DeclaredQuery reader items) fits = rw (text_spells reader fits.0, list_text_spells items fits.1) refl

@@ -9,7 +9,7 @@ use Rattle.item_catalog.specs.Declarations as e
 use Rattle.item_catalog.specs.Private.Drafts.{DraftValue, deck_from, draft_of, draft_tests, record_kind, with_declaration}
 use Rattle.item_catalog.specs.Faults.{end_tests, declarations_in, kinds_at}
 use Rattle.item_catalog.specs.Grammar.{Spells}
-use Rattle.item_catalog.specs.Parts.{disk_parts_in, items_in, set_in}
+use Rattle.item_catalog.specs.Parts.{disk_parts_in, items_in, replans_in, set_in}
 use Rattle.item_catalog.specs.declared.deck.draft.settings.Setting.TheVariants as setting
 use Rattle.item_catalog.proofs.DraftLemmas.{draft_more}
 use Rattle.item_catalog.proofs.PlaceLemmas.{end_of, declarations_more, none_added}
@@ -76,6 +76,7 @@ stand done (x ∷ xs) s p =
 plain_declaration : (x : Declaration) → Plain (declaration_row x)
 plain_declaration (e.DeclaredItem id value rate) = λ rest. refl
 plain_declaration (e.DeclaredDisk size freq) = λ rest. refl
+plain_declaration (e.DeclaredReplan cycle sizes freqs) = λ rest. refl
 plain_declaration (e.DeclaredUpdate by reads writes) = λ rest. refl
 plain_declaration (e.DeclaredReader room age tries) = λ rest. refl
 plain_declaration (e.DeclaredQuery reader items) = λ rest. refl
@@ -83,11 +84,11 @@ plain_declaration (e.DeclaredScript events) = λ rest. refl
 plain_declaration (e.DeclaredSetting (setting.Policy policy)) = λ rest. refl
 plain_declaration (e.DeclaredSetting (setting.Number name value)) = λ rest. refl
 
-pub declarations_spell : (es : List Declaration) (d : DraftValue) → draft_of es ≡ d → Passes (draft_of []) es → first_of (end_tests (length d.items) d.disks d.set) ≡ None
+pub declarations_spell : (es : List Declaration) (d : DraftValue) → draft_of es ≡ d → Passes (draft_of []) es → first_of (end_tests (length d.items) d.disks d.replans d.set) ≡ None
     → Spells (rows_text (map declaration_row es)) (deck_from d)
 declarations_spell es d same p end =
     let s = stand [] es none_stand p in
     let rows = map declaration_row es in
-    let at_end : end_of rows ≡ None = ap (λ l. first_of (end_tests (length (items_in l)) (disk_parts_in l) (set_in l))) s.declarations ∙ ap (λ (d : DraftValue). first_of (end_tests (length d.items) d.disks d.set)) same ∙ end in
+    let at_end : end_of rows ≡ None = ap (λ l. first_of (end_tests (length (items_in l)) (disk_parts_in l) (replans_in l) (set_in l))) s.declarations ∙ ap (λ (d : DraftValue). first_of (end_tests (length d.items) d.disks d.replans d.set)) same ∙ end in
     let spelled = read_deck_is (rows_text rows) rows s.faultless (written_rows rows (plain_map declaration_row plain_declaration es) ∙ sym (append-nil rows)) at_end in
     subst (λ d. Spells (rows_text rows) (deck_from d)) (ap draft_of s.declarations ∙ same) spelled

@@ -6,6 +6,7 @@ use Rattle.std.proofs.lemmas.List.Elements.{All-cons, All-map, All-nil, All-repl
 use Rattle.std.proofs.lemmas.List.FromFn.{length-map-range_with_len}
 use Rattle.std.proofs.lemmas.List.Sums.{count_by-le-length, sum_by-le}
 use Rattle.rand_pcg.specs.Lcg.{Lcg}
+use Rattle.air_base.specs.declared.limits.TheConstants.{MOST_CYCLES}
 use Rattle.air_history.specs.UpdateLists.{UpdateLists}
 use Rattle.air_model.specs.declared.deck.ReaderPlan.{ReaderPlan}
 use Rattle.air_model.specs.declared.deck.Settings.{Settings}
@@ -13,7 +14,7 @@ use Rattle.air_model.specs.Disks.{DiskSpec}
 use Rattle.air_model.specs.Decks.{Deck, IsDeck, IsQuery, IsUpdate, Item}
 use Rattle.air_model.specs.Draws.{Draw, ◌>>=◌, draw, draw_each, generator, gives, go_on}
 use Rattle.air_model.specs.Drills.{dealt_to, draw_item, draw_query, draw_update, drill_deck, drill_disks, drill_items, drill_of, drill_script}
-use Rattle.item_catalog.specs.DeckLimits.{DiskWithin, ReaderWithin, WithinLimits, is_start_part}
+use Rattle.item_catalog.specs.DeckLimits.{DiskWithin, ReaderWithin, ReplanWithin, WithinLimits, is_start_part}
 use Rattle.air_model.proofs.DeckLemmas.{each_edition}
 use Rattle.item_catalog.proofs.AroundLemmas.{range_all}
 use Rattle.item_catalog.proofs.DealLemmas.{dealt_all, dealt_few, script_fits, script_short}
@@ -56,13 +57,13 @@ made seed size items updates queries some few d =
       aired = each_edition (All (λ d. (0 < d.size) × (0 < d.freq))) deck refl (disks_all (λ d. (0 < d.size) × (0 < d.freq)) n (omega arith, omega arith) (omega arith, omega arith) (omega arith, omega arith));
       few = omega arith;
       from_two = All-nil (λ r. 2 ≤ r.cycle);
+      within_a_run = All-nil (λ r. r.cycle ≤ MOST_CYCLES);
       rising = λ i j x less within. absurd (omega arith);
       updates = each (IsUpdate (length items)) (subst (λ m. All (IsUpdate m) updates) (sym d.count) d.updates_made);
       readers = d.query_count;
       tries = All-replicate (λ (r : ReaderPlan). 1 ≤ r.tries) 8 (record { room = 4; age = 8; tries = 3 }) (omega arith);
       queries = subst (λ m. All (All (IsQuery m)) queries) (sym d.count) d.queries_made;
       script = λ by. script_fits updates (10 * size) by d.update_count;
-      plain = refl;
     }
 
 pub within : (seed size : ℕ) (items : List Item) (updates : List UpdateLists) (queries : List (List (List ℕ))) →
@@ -76,6 +77,7 @@ within seed size items updates queries seeded few d =
       rates = d.rates;
       disks = omega arith;
       disk = disks_all DiskWithin n (record { size = omega arith; freq = omega arith }) (record { size = omega arith; freq = omega arith }) (record { size = omega arith; freq = omega arith });
+      replans = All-nil ReplanWithin;
       updaters = omega (arith, dealers);
       updates = omega (
         arith,

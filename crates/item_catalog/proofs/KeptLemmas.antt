@@ -2,13 +2,13 @@
 --
 -- `Kept` is the sum of it, and `Spelt` what a declaration is that a record spells. `KeptSteps` has the steps.
 use Rattle.std.proofs.Common.{◌≡◌, ◌<◌, ◌≤◌, ◌+◌, ◌^◌, ◌++◌, ◌∷◌, [], ℕ, zero, suc, List, Option, Bool, true, false, ap, arith, get_or, length, nat_le, inl, inr, length-append}
-use Rattle.std.specs.Prelude.{All, sum_by}
+use Rattle.std.specs.Prelude.{All, AllPairs, sum_by}
 use Rattle.std.specs.List.{list_all, list_any}
 use Rattle.std.proofs.lemmas.Bool.{and_parts, cases_lt}
 use Rattle.std.proofs.lemmas.List.{set_past}
 use Rattle.std.proofs.lemmas.List.Elements.{All-append}
 use Rattle.std.proofs.lemmas.List.Sums.{sum_by-set}
-use Rattle.air_base.specs.declared.limits.TheConstants.{MOST_ASKED, MOST_DISKS, MOST_EVENTS, MOST_FREQ, MOST_ITEMS, MOST_QUERIES, MOST_RATE, MOST_READERS, MOST_SIZE, MOST_STARTS, MOST_UPDATERS, MOST_UPDATES}
+use Rattle.air_base.specs.declared.limits.TheConstants.{MOST_ASKED, MOST_CYCLES, MOST_DISKS, MOST_EVENTS, MOST_FREQ, MOST_ITEMS, MOST_QUERIES, MOST_RATE, MOST_READERS, MOST_REPLANS, MOST_SIZE, MOST_STARTS, MOST_UPDATERS, MOST_UPDATES}
 use Rattle.air_history.specs.UpdateLists.{UpdateLists}
 use Rattle.air_model.specs.Decks.{IsQuery, IsUpdate, count_parts}
 use Rattle.air_model.specs.declared.deck.ReaderPlan.{ReaderPlan}
@@ -18,6 +18,7 @@ use Rattle.item_catalog.specs.Declarations.{Declaration}
 use Rattle.item_catalog.specs.Declarations as e
 use Rattle.item_catalog.specs.Faults.{count_starts}
 use Rattle.item_catalog.specs.ListTests.{option_any}
+use Rattle.item_catalog.specs.Parts.{ReplanSaid}
 use Rattle.item_catalog.specs.Ranges.{outside}
 use Rattle.item_catalog.specs.Settings.{range_of}
 use Rattle.item_catalog.specs.declared.parts.ItemPart.{ItemPart}
@@ -64,6 +65,7 @@ InRange (setting.Number name n) = ((range_of name).0 ≤ n) × (n ≤ (range_of 
 abbrev pub Spelt : Declaration → Type 0
 Spelt (e.DeclaredItem id value rate) = value < 2 ^ 64
 Spelt (e.DeclaredDisk size freq) = Unit {0}
+Spelt (e.DeclaredReplan cycle sizes freqs) = Unit {0}
 Spelt (e.DeclaredUpdate by reads writes) = (list_all is_signed writes ≡ true) × All (λ w. w.amount < 2 ^ 64) writes
 Spelt (e.DeclaredReader room age tries) = Unit {0}
 Spelt (e.DeclaredQuery reader items) = Unit {0}
@@ -93,6 +95,17 @@ pub record DisksKept (disks : List DiskPart) : Type 0 where
   pub each : All DiskKept disks
   pub few : length disks ≤ MOST_DISKS
 
+pub record ReplanKept (r : ReplanSaid) : Type 0 where
+  pub from_two : 2 ≤ r.cycle
+  pub within_a_run : r.cycle ≤ MOST_CYCLES
+  pub disks : DisksKept r.disks
+
+pub record ReplansKept (replans : List ReplanSaid) (last : ℕ) : Type 0 where
+  pub each : All ReplanKept replans
+  pub few : length replans ≤ MOST_REPLANS
+  pub rising : AllPairs (λ a b. a.cycle < b.cycle) replans
+  pub up_to_last : All (λ r. r.cycle ≤ last) replans
+
 pub record UpdatesKept (n : ℕ) (updates : List (List UpdateLists)) (updaters count : ℕ) : Type 0 where
   pub each : All (All (IsUpdate n)) updates
   pub lists : length updates ≡ MOST_UPDATERS
@@ -120,6 +133,7 @@ pub record EventsKept (updates : List (List UpdateLists)) (script : List (Option
 pub record Kept (d : DraftValue) : Type 0 where
   pub items : ItemsKept d.items
   pub disks : DisksKept d.disks
+  pub replans : ReplansKept d.replans d.last_cycle
   pub updates : UpdatesKept (length d.items) d.updates d.updaters d.update_count
   pub readers : ReadersKept d.readers
   pub queries : QueriesKept (length d.items) d.queries d.query_count

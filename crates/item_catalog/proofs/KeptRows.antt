@@ -17,7 +17,7 @@ use Rattle.item_catalog.specs.Declarations.{Declaration, spelled_declaration}
 use Rattle.item_catalog.specs.Faults.{end_tests, declarations_in, kinds_after, kinds_at, tests_of}
 use Rattle.item_catalog.specs.Grammar.{RecordsSpell}
 use Rattle.item_catalog.specs.Kinds.{deck_kind_number}
-use Rattle.item_catalog.specs.Parts.{disk_parts_in, items_in, set_in}
+use Rattle.item_catalog.specs.Parts.{disk_parts_in, items_in, replans_in, set_in}
 use Rattle.item_catalog.specs.declared.faults.FaultKind.{FaultKind}
 use Rattle.item_catalog.proofs.DraftLemmas.{draft_more, tests_same}
 use Rattle.item_catalog.proofs.KeptLemmas.{Kept}
@@ -43,6 +43,7 @@ pub kept_none : Kept (draft_of [])
 kept_none = record {
   items = record { each = λ k d below. absurd (omega arith); few = omega arith };
   disks = record { each = λ k d below. absurd (omega arith); few = omega arith };
+  replans = record { each = λ k d below. absurd (omega arith); few = omega arith; rising = λ i j d less below. absurd (omega arith); up_to_last = λ k d below. absurd (omega arith) };
   updates = record {
     each = λ k d below. λ j e inside. absurd (omega (arith, inside, ap length (empty_at MOST_UPDATERS k d below)));
     lists = refl;
@@ -81,7 +82,7 @@ pub spelled_made : (rows : List (List (List ℕ))) (deck : Deck) → RecordsSpel
 unfolding kinds_at
 spelled_made rows deck spelled =
     let k = kept_all rows (λ place below. spelled.faultless place (omega arith)) in
-    let end : first_of (end_tests (length (items_in (declarations_in rows))) (disk_parts_in (declarations_in rows)) (set_in (declarations_in rows))) ≡ None
-    = none_first deck_kind_number (end_tests (length (items_in (declarations_in rows))) (disk_parts_in (declarations_in rows)) (set_in (declarations_in rows))) (sym (kinds_end judge rows) ∙ spelled.faultless (length rows) (omega arith)) in
+    let end : first_of (end_tests (length (items_in (declarations_in rows))) (disk_parts_in (declarations_in rows)) (replans_in (declarations_in rows)) (set_in (declarations_in rows))) ≡ None
+    = none_first deck_kind_number (end_tests (length (items_in (declarations_in rows))) (disk_parts_in (declarations_in rows)) (replans_in (declarations_in rows)) (set_in (declarations_in rows))) (sym (kinds_end judge rows) ∙ spelled.faultless (length rows) (omega arith)) in
     let same = deck_same (declarations_in rows) k ∙ sym spelled.parts in
     (subst IsDeck same (made (draft_of (declarations_in rows)) k end), subst WithinLimits same (within (draft_of (declarations_in rows)) k end))

@@ -25,6 +25,7 @@ use Rattle.item_catalog.specs.declared.parts.ItemPart.{ItemPart}
 use Rattle.item_catalog.specs.declared.deck.draft.settings.Setting.{Setting}
 use Rattle.item_catalog.proofs.DeclarationLemmas.{is_signed, none_of_one, none_of_three, none_of_two, or_none, rules_kept, update_tested}
 use Rattle.item_catalog.proofs.ScriptLemmas.{is_part_of, none_below, starts_all}
+use Rattle.item_catalog.proofs.KeptReplans.{kept_replan}
 use Rattle.item_catalog.proofs.KeptLemmas.{DiskKept, InRange, Kept, QueryKept, ReaderKept, Spelt, all_push, none_all, sum_push}
 
 -- What is right for some items is right for one more.
@@ -69,6 +70,7 @@ module _ (d : DraftValue) (k : Kept d) where
       record {
         items = record { each = all_push (λ (i : ItemPart). (i.value < 2 ^ 64) × (i.rate ≤ MOST_RATE)) d.items (record { value = value; rate = rate }) k.items.each (fits, low); few = omega arith };
         disks = k.disks;
+        replans = k.replans;
         updates = record {
           each = rw n (λ i us below. λ j u inside. update_wider (length d.items) (get_or (get_or d.updates i us) j u) (k.updates.each i us below j u inside));
           lists = k.updates.lists;
@@ -101,6 +103,7 @@ module _ (d : DraftValue) (k : Kept d) where
           each = all_push DiskKept d.disks (record { size = size; freq = freq }) k.disks.each (record { some = grind (arith, nat_tests, sizes.0); few = grind (arith, nat_tests, sizes.1); freq = one.1 });
           few = omega (arith, length-append d.disks (record { size = size; freq = freq } ∷ []));
         };
+        replans = k.replans;
         updates = k.updates;
         readers = k.readers;
         queries = k.queries;
@@ -120,6 +123,7 @@ module _ (d : DraftValue) (k : Kept d) where
       record {
         items = k.items;
         disks = k.disks;
+        replans = k.replans;
         updates = k.updates;
         readers = record {
           each = all_push ReaderKept d.readers reader k.readers.each (record {
@@ -181,6 +185,7 @@ module _ (d : DraftValue) (k : Kept d) where
       record {
         items = k.items;
         disks = k.disks;
+        replans = k.replans;
         updates = record {
           each = each_push (IsUpdate (length d.items)) d.updates by u k.updates.each right;
           lists = length_push d.updates by u ∙ k.updates.lists;
@@ -215,6 +220,7 @@ module _ (d : DraftValue) (k : Kept d) where
       record {
         items = k.items;
         disks = k.disks;
+        replans = k.replans;
         updates = k.updates;
         readers = k.readers;
         queries = record {
@@ -238,6 +244,7 @@ module _ (d : DraftValue) (k : Kept d) where
       record {
         items = k.items;
         disks = k.disks;
+        replans = k.replans;
         updates = k.updates;
         readers = k.readers;
         queries = k.queries;
@@ -257,6 +264,7 @@ module _ (d : DraftValue) (k : Kept d) where
   kept_set s range = record {
     items = k.items;
     disks = k.disks;
+    replans = k.replans;
     updates = k.updates;
     readers = k.readers;
     queries = k.queries;
@@ -268,6 +276,7 @@ module _ (d : DraftValue) (k : Kept d) where
 pub kept_more : (d : DraftValue) (x : Declaration) → Kept d → Spelt x → first_of (draft_tests d x) ≡ None → Kept (with_declaration d x)
 kept_more d (e.DeclaredItem id value rate) k spelt none = kept_item d k id value rate spelt none
 kept_more d (e.DeclaredDisk size freq) k spelt none = kept_disk d k size freq none
+kept_more d (e.DeclaredReplan cycle sizes freqs) k spelt none = kept_replan d k cycle sizes freqs none
 kept_more d (e.DeclaredUpdate by reads writes) k spelt none = kept_update d k by reads writes spelt.0 spelt.1 none
 kept_more d (e.DeclaredReader room age tries) k spelt none = kept_reader d k room age tries none
 kept_more d (e.DeclaredQuery reader items) k spelt none = kept_query d k reader items none

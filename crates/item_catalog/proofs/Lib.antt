@@ -1,5 +1,7 @@
 pub mod DiskLemmas
-pub mod LeadingEventLemmas
+pub mod PartWords
+pub mod ReplanLemmas
+pub mod KeptReplans
 pub mod WriteLemmas
 pub mod ScriptLemmas
 pub mod DeclarationLemmas
@@ -38,6 +40,8 @@ mod DraftSteps
 mod DeckDrafts
 mod TestLemmas
 mod UpdateTests
+mod ReplanTests
+mod DraftSections
 mod ScriptTests
 mod DeckTests
 mod SpelledDecks
@@ -45,4 +49,6 @@ mod DrillTexts
 mod TextExamples
 mod DeclarationExamples
 mod TestExamples
+mod ReplanExamples
 mod FirstFaultExamples
+mod EndExamples

@@ -14,7 +14,7 @@ use Rattle.item_catalog.specs.Declarations as e
 use Rattle.item_catalog.specs.Faults.{end_tests, declarations_in, kinds_after, kinds_at, place_kinds, tests_of}
 use Rattle.item_catalog.specs.Grammar.{RecordsFail}
 use Rattle.item_catalog.specs.Kinds.{deck_kind_number}
-use Rattle.item_catalog.specs.Parts.{disk_parts_in, items_in, set_in}
+use Rattle.item_catalog.specs.Parts.{disk_parts_in, items_in, replans_in, set_in}
 use Rattle.item_catalog.specs.declared.faults.FaultKind.{FaultKind}
 use Rattle.item_catalog.proofs.DraftLemmas.{draft_more, tests_same}
 
@@ -26,6 +26,7 @@ judge rows row = place_kinds (declarations_in rows) row
 tests_rise : (before : List Declaration) (x : Declaration) → rising deck_kind_number 0 (tests_of before x) ≡ true
 tests_rise before (e.DeclaredItem id value rate) = refl
 tests_rise before (e.DeclaredDisk size freq) = refl
+tests_rise before (e.DeclaredReplan cycle sizes freqs) = refl
 tests_rise before (e.DeclaredUpdate by reads writes) = refl
 tests_rise before (e.DeclaredReader room age tries) = refl
 tests_rise before (e.DeclaredQuery reader items) = refl
@@ -58,7 +59,7 @@ module _ (rows : List (List (List ℕ))) (row : List (List ℕ)) where
 
 -- The first kind at the end of records.
 abbrev pub end_of : List (List (List ℕ)) → Option FaultKind
-end_of rows = first_of (end_tests (length (items_in (declarations_in rows))) (disk_parts_in (declarations_in rows)) (set_in (declarations_in rows)))
+end_of rows = first_of (end_tests (length (items_in (declarations_in rows))) (disk_parts_in (declarations_in rows)) (replans_in (declarations_in rows)) (set_in (declarations_in rows)))
 
 module _ (rows : List (List (List ℕ))) where
   pub ended_bad : (kind : FaultKind) → NoneBefore (kinds_at rows) (length rows) → end_of rows ≡ Some kind → RecordsFail rows (length rows) (deck_kind_number kind)
@@ -66,7 +67,7 @@ module _ (rows : List (List (List ℕ))) where
   ended_bad kind before h = record {
     within = omega arith;
     first = before;
-    least = rw (places.kinds_end judge rows) (least_applies deck_kind_number 0 (end_tests (length (items_in (declarations_in rows))) (disk_parts_in (declarations_in rows)) (set_in (declarations_in rows))) kind refl h);
+    least = rw (places.kinds_end judge rows) (least_applies deck_kind_number 0 (end_tests (length (items_in (declarations_in rows))) (disk_parts_in (declarations_in rows)) (replans_in (declarations_in rows)) (set_in (declarations_in rows))) kind refl h);
   }
 
   pub ended_good : NoneBefore (kinds_at rows) (length rows) → end_of rows ≡ None → NoneBefore (kinds_at rows) (length rows + 1)
@@ -74,5 +75,5 @@ module _ (rows : List (List (List ℕ))) where
   ended_good before h place below = elim (cases_lt place (length rows)) [
     | inl less ↦ before place less
     | inr more ↦ let here : place ≡ length rows = omega arith in
-        ap (kinds_at rows) here ∙ places.kinds_end judge rows ∙ none_apply deck_kind_number (end_tests (length (items_in (declarations_in rows))) (disk_parts_in (declarations_in rows)) (set_in (declarations_in rows))) h
+        ap (kinds_at rows) here ∙ places.kinds_end judge rows ∙ none_apply deck_kind_number (end_tests (length (items_in (declarations_in rows))) (disk_parts_in (declarations_in rows)) (replans_in (declarations_in rows)) (set_in (declarations_in rows))) h
   ]

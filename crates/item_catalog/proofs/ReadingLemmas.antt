@@ -61,15 +61,15 @@ err_more (Err e) P Q f h = f e h
 
 module _ (text : List ℕ) (rows : List (List (List ℕ))) (before : NoneBefore (kinds_at rows) (length rows)) (all : records_of text ≡ rows ++ [])
     (draft : DraftValue) (same : draft ≡ draft_of (declarations_in rows)) (row : ℕ) (number : row ≡ length rows + 1) where
-  kind_same : first_of (end_tests (length draft.items) draft.disks draft.set) ≡ end_of rows
-  kind_same = ap (λ (d : DraftValue). first_of (end_tests (length d.items) d.disks d.set)) same
+  kind_same : first_of (end_tests (length draft.items) draft.disks draft.replans draft.set) ≡ end_of rows
+  kind_same = ap (λ (d : DraftValue). first_of (end_tests (length d.items) d.disks d.replans d.set)) same
 
-  pub ends_deck : (deck : Deck) → (first_of (end_tests (length draft.items) draft.disks draft.set) ≡ None) × (deck ≡ deck_from draft) → Spells text deck
+  pub ends_deck : (deck : Deck) → (first_of (end_tests (length draft.items) draft.disks draft.replans draft.set) ≡ None) × (deck ≡ deck_from draft) → Spells text deck
   ends_deck deck h =
       let P : Deck → Type 0 = λ deck. Spells text deck in
       subst P (sym (h.1 ∙ ap deck_from same)) (read_deck_is text rows before all (sym kind_same ∙ h.0))
 
-  pub ends_fault : (e : DeckError) → EndsBy row (first_of (end_tests (length draft.items) draft.disks draft.set)) e → IsErrorOf text e
+  pub ends_fault : (e : DeckError) → EndsBy row (first_of (end_tests (length draft.items) draft.disks draft.replans draft.set)) e → IsErrorOf text e
   ends_fault (error.Fault fault) h = subst (λ r. HasFault text r fault.kind) (sym (h.0 ∙ number)) (by (end_of rows) refl (sym (ap (option_map deck_kind_number) kind_same) ∙ h.1))
     where
       by : (told : Option FaultKind) → end_of rows ≡ told → option_map deck_kind_number told ≡ Some fault.kind → HasFault text (length rows + 1) fault.kind

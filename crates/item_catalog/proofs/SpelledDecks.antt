@@ -15,8 +15,9 @@ use Rattle.item_catalog.specs.Faults.{declarations_in}
 use Rattle.item_catalog.specs.Grammar.{RecordsSpell, Spells}
 use Rattle.item_catalog.specs.Parts.{greatest_number, its_update, its_updaters, updaters_in, updates_in}
 use Rattle.item_catalog.specs.DeckTexts.{LastUpdates, deck_declarations, deck_text, declaration_row}
+use Rattle.item_catalog.proofs.DraftSections.{all_named, last_named}
 use Rattle.item_catalog.proofs.DraftSteps.{declarations_spell}
-use Rattle.item_catalog.proofs.DeckDrafts.{all_named, deck_back, deck_drafted, last_named, whole_draft}
+use Rattle.item_catalog.proofs.DeckDrafts.{deck_back, deck_drafted, whole_draft}
 use Rattle.item_catalog.proofs.DeckTests.{deck_passes, end_none, few_queries}
 
 -- ---- a deck has a text
@@ -32,7 +33,7 @@ unfolding deck_text
 deck_spelled deck made within last =
     let text = rows_text (map declaration_row (deck_declarations deck)) in
     let drafted = deck_drafted deck within.updaters (few_queries deck made within) in
-    subst (λ d. Spells text d) (deck_back deck (every_named deck.updates last) made.readers made.plain)
+    subst (λ d. Spells text d) (deck_back deck (every_named deck.updates last) made.readers)
     (declarations_spell (deck_declarations deck) (whole_draft deck) drafted (deck_passes deck made within) (end_none deck made within))
 
 -- ---- what a text spells
@@ -46,6 +47,7 @@ module _ (last : ℕ) where
   last_updates [] same = absurd (omega arith)
   last_updates (e.DeclaredItem id value rate ∷ declarations) same = last_updates declarations (omega arith)
   last_updates (e.DeclaredDisk size freq ∷ declarations) same = last_updates declarations (omega arith)
+  last_updates (e.DeclaredReplan cycle sizes freqs ∷ declarations) same = last_updates declarations (omega arith)
   last_updates (e.DeclaredUpdate by reads writes ∷ declarations) same = at (by == last) refl (last_updates declarations)
     where
       at : (b : Bool) → (by == last) ≡ b → (greatest_number (map its_updaters declarations) ≡ last + 1 → 0 < length (own_updates declarations)) → 0 < length (own_updates (e.DeclaredUpdate by reads writes ∷ declarations))

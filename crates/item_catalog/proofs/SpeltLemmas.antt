@@ -8,7 +8,7 @@ use Rattle.air_base.specs.declared.verdicts.Policy.{Policy}
 use Rattle.air_history.specs.declared.updates.Write.{Write}
 use Rattle.item_catalog.specs.declared.faults.FaultKind.TheVariants as fault
 use Rattle.item_catalog.specs.Spelled.{or_fault, spelled_then}
-use Rattle.item_catalog.specs.Declarations.{Declaration, disk_by, declaration_by, item_by, query_by, reader_by, script_by, set_by, spelled_declaration, tag_of, update_by}
+use Rattle.item_catalog.specs.Declarations.{Declaration, disk_by, declaration_by, item_by, query_by, reader_by, replan_by, script_by, set_by, spelled_declaration, tag_of, update_by}
 use Rattle.item_catalog.specs.Declarations as e
 use Rattle.item_catalog.specs.RecordFields.{◌is◌}
 use Rattle.item_catalog.specs.Fields.{freq_of, spelled_event}
@@ -84,6 +84,16 @@ update_spelt (Some f) x h = by (number_of f.0) (list_of number_of f.1) (list_of 
     by (Some a) (Some rs) None e1 h = cc h
     by (Some a) (Some rs) (Some ws) e1 h = let same : e.DeclaredUpdate a rs ws ≡ x = cc h in rw (← same) (writes_signed f.2 ws e1, amounts_fit f.2 ws e1)
 
+replan_spelt : (f : Option (List ℕ × List ℕ × List ℕ)) (x : Declaration) → replan_by f ≡ Ok x → Spelt x
+replan_spelt None x h = cc h
+replan_spelt (Some f) x h = by (number_of f.0) (list_of number_of f.1) (list_of freq_of f.2) h
+  where
+    by : (a : Option ℕ) (b : Option (List ℕ)) (c : Option (List (Option ℕ))) → or_fault fault.Form (spelled_then a λ cycle. spelled_then b λ sizes. spelled_then c λ freqs. Some (e.DeclaredReplan cycle sizes freqs)) ≡ Ok x → Spelt x
+    by None b c h = cc h
+    by (Some a) None c h = cc h
+    by (Some a) (Some b) None h = cc h
+    by (Some a) (Some b) (Some c) h = let same : e.DeclaredReplan a b c ≡ x = cc h in rw (← same) tt
+
 reader_spelt : (f : Option (List ℕ × List ℕ × List ℕ)) (x : Declaration) → reader_by f ≡ Ok x → Spelt x
 reader_spelt None x h = cc h
 reader_spelt (Some f) x h = by (number_of f.0) (number_of f.1) (number_of f.2) h
@@ -126,6 +136,7 @@ declaration_spelt (tag ∷ fields) x h = by (tag_of tag) h
     by : (t : Option Tag) → declaration_by t fields ≡ Ok x → Spelt x
     by (Some t.Item) h = item_spelt (three_of fields) x h
     by (Some t.Disk) h = disk_spelt (two_of fields) x h
+    by (Some t.Replan) h = replan_spelt (three_of fields) x h
     by (Some t.Update) h = update_spelt (three_of fields) x h
     by (Some t.Reader) h = reader_spelt (three_of fields) x h
     by (Some t.Query) h = query_spelt (two_of fields) x h

@@ -1,27 +1,28 @@
 -- The deck of parts to which no kind applies is well made, and within the limits.
-use Rattle.std.proofs.Common.{◌≡◌, ◌⊎◌, ◌<◌, ◌≤◌, ◌+◌, ◌*◌, ◌^◌, ◌∷◌, [], ℕ, zero, suc, List, Option, Some, None, Bool, true, false, cond, not, ◌∙◌, sym, subst, refl, ap, arith, map, get_or, length, take, nat_lt, inl, inr}
-use Rattle.std.specs.Prelude.{◌==◌, ◌||◌, All, sum_by, unwrap_or}
-use Rattle.std.specs.List.{range_with_len}
+use Rattle.std.proofs.Common.{◌≡◌, ◌⊎◌, ◌<◌, ◌≤◌, ◌+◌, ◌*◌, ◌^◌, ◌∷◌, [], ℕ, zero, suc, List, Option, Some, None, Bool, true, false, cond, ◌∙◌, sym, subst, refl, ap, arith, map, get_or, length, take, nat_lt, inl, inr}
+use Rattle.std.specs.Prelude.{◌==◌, ◌||◌, All, AllPairs, sum_by, unwrap_or}
+use Rattle.std.specs.List.{list_any, range_with_len}
 use Rattle.std.proofs.lemmas.Bool.{cases_lt}
 use Rattle.std.proofs.lemmas.Bool.Decides.{nat_tests}
 use Rattle.std.proofs.lemmas.List.{get_or-take, length-map, length-take-le}
-use Rattle.std.proofs.lemmas.List.Elements.{All-map, All-nil}
+use Rattle.std.proofs.lemmas.List.{get_or-map}
+use Rattle.std.proofs.lemmas.List.Elements.{All-map}
 use Rattle.std.proofs.lemmas.List.Sums.{sum_by-cons}
 use Rattle.std.proofs.lemmas.Nat.{mul-le}
-use Rattle.air_base.specs.declared.limits.TheConstants.{MOST_ASKED, MOST_DELTA, MOST_DISKS, MOST_FREQ, MOST_RATE, MOST_SIZE, MOST_UPDATERS}
+use Rattle.air_base.specs.declared.limits.TheConstants.{MOST_ASKED, MOST_CYCLES, MOST_DELTA, MOST_DISKS, MOST_FREQ, MOST_RATE, MOST_SIZE, MOST_UPDATERS}
 use Rattle.air_model.specs.Buckets.{most_count}
-use Rattle.air_model.specs.Decks.{Deck, IsDeck, IsQuery, IsUpdate, Item, count_parts}
+use Rattle.air_model.specs.Decks.{Deck, IsDeck, IsQuery, IsUpdate, Item, Replan, count_parts}
 use Rattle.air_history.specs.UpdateLists.{UpdateLists}
 use Rattle.air_model.specs.declared.deck.ReaderPlan.{ReaderPlan}
 use Rattle.air_model.specs.declared.deck.Settings.{Settings}
-use Rattle.item_catalog.specs.Parts.{queries_in, readers_in, updaters_in, updates_in}
+use Rattle.item_catalog.specs.Parts.{ReplanSaid, queries_in, readers_in, updaters_in, updates_in}
 use Rattle.air_model.specs.Disks.{DiskSpec}
-use Rattle.item_catalog.specs.DeckLimits.{SettingsWithin, WithinLimits}
-use Rattle.item_catalog.specs.Decks.{deck_of, plain_item, with_freqs}
+use Rattle.item_catalog.specs.DeckLimits.{ReplanWithin, SettingsWithin, WithinLimits}
+use Rattle.item_catalog.specs.Decks.{deck_of, plain_item, plain_replan, with_freqs}
 use Rattle.item_catalog.specs.Private.Drafts.{DraftValue, deck_from, draft_of}
 use Rattle.item_catalog.specs.Declarations.{Declaration}
 use Rattle.item_catalog.specs.RecordKinds.{first_of}
-use Rattle.item_catalog.specs.Faults.{end_tests}
+use Rattle.item_catalog.specs.Faults.{differs_from, end_tests}
 use Rattle.item_catalog.specs.ListTests.{option_any}
 use Rattle.item_catalog.specs.Ranges.{outside}
 use Rattle.item_catalog.specs.Settings.{default_of, number_in, number_said, range_of, same_name, settings_in}
@@ -31,10 +32,10 @@ use Rattle.item_catalog.specs.declared.deck.draft.settings.Name.{Name}
 use Rattle.item_catalog.specs.declared.deck.draft.settings.Name.TheVariants as n
 use Rattle.item_catalog.specs.declared.deck.draft.settings.Setting.{Setting}
 use Rattle.item_catalog.specs.declared.deck.draft.settings.Setting.TheVariants as setting
-use Rattle.air_model.proofs.DeckLemmas.{each_edition}
+use Rattle.air_model.proofs.DeckLemmas.{by_editions}
 use Rattle.item_catalog.proofs.DiskLemmas.{freqs_len}
 use Rattle.item_catalog.proofs.DeclarationLemmas.{none_of_two, or_none}
-use Rattle.item_catalog.proofs.KeptLemmas.{DiskKept, InRange, Kept}
+use Rattle.item_catalog.proofs.KeptLemmas.{DiskKept, InRange, Kept, none_all}
 
 -- ---- settings
 
@@ -147,24 +148,53 @@ take_for_each f a (suc n) (suc m) less = ap (λ l. f a ∷ l) (take_for_each f (
 -- What the end asks of the parts.
 record Ended (d : DraftValue) : Type 0 where
   sizes : sum_by (λ x. x.size) d.disks ≡ length d.items
+  replans : All (λ r. sum_by (λ x. x.size) r.disks ≡ length d.items) d.replans
   some : 0 < length d.items
   most : length d.items ≤ most_count (number_in n.Version d.set)
 
-ended : (d : DraftValue) → first_of (end_tests (length d.items) d.disks d.set) ≡ None → Ended d
+adds_up : (n : ℕ) (disks : List DiskPart) → differs_from n disks ≡ false → sum_by (λ x. x.size) disks ≡ n
+adds_up n disks h = grind (arith, nat_tests, h)
+
+ended : (d : DraftValue) → first_of (end_tests (length d.items) d.disks d.replans d.set) ≡ None → Ended d
 ended d none =
     let most = most_count (number_in n.Version d.set) in
     let empty = length d.items == 0 || length d.disks == 0 in
-    let t = none_of_two fault.Sizes fault.Limit (not (sum_by (λ x. x.size) d.disks == length d.items)) (empty || nat_lt most (length d.items)) none in
+    let own = differs_from (length d.items) d.disks in
+    let some = list_any (λ (r : ReplanSaid). differs_from (length d.items) r.disks) d.replans in
+    let t = none_of_two fault.Sizes fault.Limit (own || some) (empty || nat_lt most (length d.items)) none in
+    let sizes = or_none own some t.0 in
     let limits = or_none empty (nat_lt most (length d.items)) t.1 in
     let items = or_none (length d.items == 0) (length d.disks == 0) limits.0 in
-    record { sizes = grind (arith, nat_tests, t.0); some = grind (arith, nat_tests, items.0); most = grind (arith, nat_tests, limits.1) }
+    record {
+      sizes = adds_up (length d.items) d.disks sizes.0;
+      replans = λ i r below. adds_up (length d.items) (get_or d.replans i r).disks (none_all (λ (r : ReplanSaid). differs_from (length d.items) r.disks) d.replans sizes.1 i r below);
+      some = grind (arith, nat_tests, items.0);
+      most = grind (arith, nat_tests, limits.1);
+    }
 
-module _ (d : DraftValue) (k : Kept d) (end : first_of (end_tests (length d.items) d.disks d.set) ≡ None) where
+module _ (d : DraftValue) (k : Kept d) (end : first_of (end_tests (length d.items) d.disks d.replans d.set) ≡ None) where
   pub delta_small : number_in n.Delta d.set ≤ 9
   delta_small = (number_fits n.Delta d.set k.set).1
 
   specs : All SpecKept (with_freqs (number_in n.Delta d.set) d.disks)
   specs = specs_kept (number_in n.Delta d.set) d.disks delta_small k.disks.few k.disks.each
+
+  replan_specs : All (λ r. All SpecKept (with_freqs (number_in n.Delta d.set) r.disks)) d.replans
+  replan_specs i r below = let kept = (k.replans.each i r below).disks in specs_kept (number_in n.Delta d.set) (get_or d.replans i r).disks delta_small kept.few kept.each
+
+  -- What holds of each replan's part holds of the replan.
+  each_replan : (P : Replan → Type 0) → All (λ r. P (plain_replan (number_in n.Delta d.set) r)) d.replans → All P (deck_from d).replans
+  each_replan P = All-map P (plain_replan (number_in n.Delta d.set)) d.replans
+
+  rise : AllPairs (λ a b. a.cycle < b.cycle) (deck_from d).replans
+  rise i j x less below =
+      let f = plain_replan (number_in n.Delta d.set) in
+      let inside : j < length d.replans = omega (arith, below, length-map d.replans f) in
+      let part : ReplanSaid = record { cycle = 0; disks = [] } in
+      let rising = k.replans.rising i j part less inside in
+      let one = ap (λ (r : Replan). r.cycle) (get_or-map f d.replans i part x (omega arith)) in
+      let other = ap (λ (r : Replan). r.cycle) (get_or-map f d.replans j part x inside) in
+      omega (arith, rising, one, other)
 
   items_len : length (map plain_item d.items) ≡ length d.items
   items_len = length-map d.items plain_item
@@ -189,17 +219,19 @@ module _ (d : DraftValue) (k : Kept d) (end : first_of (end_tests (length d.item
         most = let most = e.most in omega (arith, items_len);
         values = All-map (λ (i : Item). i.value < 2 ^ 64) plain_item d.items (λ i x below. (k.items.each i x below).0);
         version = known_version d.set k.set;
-        sizes = each_edition (λ specs. sum_by (λ d. d.size) specs ≡ length (map plain_item d.items)) (deck_from d) refl (sizes_same (number_in n.Delta d.set) d.disks ∙ e.sizes ∙ sym items_len);
-        aired = each_edition (All (λ d. (0 < d.size) × (0 < d.freq))) (deck_from d) refl (λ i x below. let s = specs i x below in (s.some, s.often));
-        few = omega arith;
-        from_two = All-nil (λ r. 2 ≤ r.cycle);
-        rising = λ i j d less within. absurd (omega arith);
+        sizes = by_editions (λ specs. sum_by (λ d. d.size) specs ≡ length (map plain_item d.items)) (deck_from d) (sizes_same (number_in n.Delta d.set) d.disks ∙ e.sizes ∙ sym items_len)
+            (each_replan (λ r. sum_by (λ d. d.size) r.disks ≡ length (map plain_item d.items)) (λ i r below. sizes_same (number_in n.Delta d.set) (get_or d.replans i r).disks ∙ e.replans i r below ∙ sym items_len));
+        aired = by_editions (All (λ d. (0 < d.size) × (0 < d.freq))) (deck_from d) (λ i x below. let s = specs i x below in (s.some, s.often))
+            (each_replan (λ r. All (λ d. (0 < d.size) × (0 < d.freq)) r.disks) (λ i r below. λ j x inside. let s = replan_specs i r below j x inside in (s.some, s.often)));
+        few = let few = k.replans.few in omega (arith, length-map d.replans (plain_replan (number_in n.Delta d.set)));
+        from_two = each_replan (λ r. 2 ≤ r.cycle) (λ i r below. (k.replans.each i r below).from_two);
+        within_a_run = each_replan (λ r. r.cycle ≤ MOST_CYCLES) (λ i r below. (k.replans.each i r below).within_a_run);
+        rising = rise;
         updates = rw items_len (all_take (All (IsUpdate (length d.items))) d.updaters d.updates k.updates.each);
         readers = queries_len;
         tries = λ i x below. (k.readers.each i x below).some;
         queries = rw items_len (all_take (All (IsQuery (length d.items))) (length d.readers) d.queries (λ i x below. λ j y inside. (k.queries.each i x below j y inside).query));
         script = fits;
-        plain = refl;
       }
 
   pub within : WithinLimits (deck_from d)
@@ -207,6 +239,10 @@ module _ (d : DraftValue) (k : Kept d) (end : first_of (end_tests (length d.item
     rates = All-map (λ (i : Item). i.rate ≤ MOST_RATE) plain_item d.items (λ i x below. (k.items.each i x below).1);
     disks = let few = k.disks.few in omega (arith, freqs_len (number_in n.Delta d.set) d.disks);
     disk = λ i x below. let s = specs i x below in record { size = s.few; freq = s.seldom };
+    replans = each_replan ReplanWithin (λ i r below. record {
+      disks = let few = (k.replans.each i r below).disks.few in omega (arith, freqs_len (number_in n.Delta d.set) (get_or d.replans i r).disks);
+      disk = λ j x inside. let s = replan_specs i r below j x inside in record { size = s.few; freq = s.seldom };
+    });
     updaters = let few = k.updates.few in omega (arith, updaters_len);
     updates = let all = k.updates.all in let few = k.updates.few_in_all in omega (arith, sum_take length d.updaters d.updates);
     readers = k.readers.few;
@@ -219,9 +255,9 @@ module _ (d : DraftValue) (k : Kept d) (end : first_of (end_tests (length d.item
   }
 
 -- The deck of the parts is the deck of the declarations.
-same_deck : {i j : List Item} {d e : List DiskSpec} {u v : List (List UpdateLists)} {r s : List ReaderPlan} {q p : List (List (List ℕ))} {x y : List (Option ℕ)} {t w : Settings}
+same_deck : {i j : List Item} {d e : List DiskSpec} {u v : List (List UpdateLists)} {r s : List ReaderPlan} {q p : List (List (List ℕ))} {x y : List (Option ℕ)} {t w : Settings} {f : List Replan}
     → i ≡ j → d ≡ e → u ≡ v → r ≡ s → q ≡ p → x ≡ y → t ≡ w
-    → ◌≡◌ {A = Deck} (record { items = i; disks = d; replans = []; updates = u; readers = r; queries = q; script = x; settings = t }) (record { items = j; disks = e; replans = []; updates = v; readers = s; queries = p; script = y; settings = w })
+    → ◌≡◌ {A = Deck} (record { items = i; disks = d; replans = f; updates = u; readers = r; queries = q; script = x; settings = t }) (record { items = j; disks = e; replans = f; updates = v; readers = s; queries = p; script = y; settings = w })
 same_deck h1 h2 h3 h4 h5 h6 h7 = cc
 
 pub deck_same : (es : List Declaration) → Kept (draft_of es) → deck_from (draft_of es) ≡ deck_of es

@@ -1,9 +1,9 @@
 -- What contracts see of the fields of a deck, and what these keep.
-use Rattle.std.specs.Prelude.{◌≡◌, ◌≤◌, [], map}
+use Rattle.std.specs.Prelude.{◌≡◌, ◌≤◌, map}
 use Rattle.air_base.specs.declared.limits.TheConstants.{MOST_DELTA}
 use Rattle.air_model.specs.Decks.{Deck, IsDeck}
 use Rattle.item_catalog.specs.DeckLimits.{WithinLimits, script_starts}
-use Rattle.item_catalog.specs.Decks.{plain_item, with_freqs}
+use Rattle.item_catalog.specs.Decks.{plain_item, plain_replan, with_freqs}
 use Rattle.item_catalog.specs.declared.deck.Deck.TheInside.{Inside}
 
 -- The plain deck of the fields: a frequency that isn't said is made of delta.
@@ -11,7 +11,7 @@ abbrev pub deck_seen : Inside → Deck
 deck_seen d = record {
   items = map plain_item d.items.items;
   disks = with_freqs d.delta d.disks.items;
-  replans = [];
+  replans = map (plain_replan d.delta) d.replans.items;
   updates = d.updates.items;
   readers = d.readers.items;
   queries = d.queries.items;

@@ -4,13 +4,18 @@ use Rattle.air_base.specs.declared.limits.TheConstants.{MOST_AGE, MOST_ASKED, MO
 use Rattle.air_model.specs.declared.deck.ReaderPlan.{ReaderPlan}
 use Rattle.air_model.specs.declared.deck.Settings.{Settings}
 use Rattle.air_model.specs.Disks.{DiskSpec}
-use Rattle.air_model.specs.Decks.{Deck}
+use Rattle.air_model.specs.Decks.{Deck, Replan}
 use Rattle.std.specs.Prelude.{Option, Some, None, Bool, true, false, count_by}
 
 -- A disk takes so many items at most, and a cycle airs each of them so often at most.
 pub record DiskWithin (d : DiskSpec) : Type 0 where
   pub size : d.size ≤ MOST_SIZE
   pub freq : d.freq ≤ MOST_FREQ
+
+-- A replan has so many disks at most, each within its limits.
+pub record ReplanWithin (r : Replan) : Type 0 where
+  pub disks : length r.disks ≤ MOST_DISKS
+  pub disk : All DiskWithin r.disks
 
 -- A reader has room for so many copies at most, which are too old after so many cycles at most, and tries so often at most.
 pub record ReaderWithin (r : ReaderPlan) : Type 0 where
@@ -43,6 +48,7 @@ pub record WithinLimits (deck : Deck) : Type 0 where
   pub rates : All (λ i. i.rate ≤ MOST_RATE) deck.items
   pub disks : length deck.disks ≤ MOST_DISKS
   pub disk : All DiskWithin deck.disks
+  pub replans : All ReplanWithin deck.replans
   pub updaters : length deck.updates ≤ MOST_UPDATERS
   pub updates : sum_by length deck.updates ≤ MOST_UPDATES
   pub readers : length deck.readers ≤ MOST_READERS

@@ -1,7 +1,7 @@
 -- The text of a deck: one record for each of its parts.
 --
 -- The records are those of the grammar (`Declarations`), each part's in the order in which the deck has them: the items, the disks,
--- the updates of each updater, the readers, the queries of each reader, one record for the script, and one for each setting but
+-- the replans, the updates of each updater, the readers, the queries of each reader, one record for the script, and one for each setting but
 -- delta, since each disk's frequency is said.
 use Rattle.std.specs.Prelude.{◌≡◌, ◌+◌, ◌<◌, ◌++◌, ℕ, List, [], ◌∷◌, Bool, true, false, Option, Some, None, length, map, codes}
 use Rattle.std.specs.List.{enumerate_from, flat_map}
@@ -14,7 +14,7 @@ use Rattle.air_history.specs.UpdateLists.{UpdateLists}
 use Rattle.air_model.specs.declared.deck.ReaderPlan.{ReaderPlan}
 use Rattle.air_model.specs.declared.deck.Settings.{Settings}
 use Rattle.air_model.specs.Disks.{DiskSpec}
-use Rattle.air_model.specs.Decks.{Deck, Item, updates_by}
+use Rattle.air_model.specs.Decks.{Deck, Item, Replan, updates_by}
 use Rattle.air_model.specs.Rows.{rows_text}
 use Rattle.item_catalog.specs.Declarations.{Declaration}
 use Rattle.item_catalog.specs.Declarations as e
@@ -74,6 +74,7 @@ set_row (setting.Number name value) = codes "set" ∷ name_text name ∷ number_
 abbrev pub declaration_row : Declaration → List (List ℕ)
 declaration_row (e.DeclaredItem id value rate) = codes "item" ∷ number_text id ∷ number_text value ∷ number_text rate ∷ []
 declaration_row (e.DeclaredDisk size freq) = codes "disk" ∷ number_text size ∷ freq_text freq ∷ []
+declaration_row (e.DeclaredReplan cycle sizes freqs) = codes "replan" ∷ number_text cycle ∷ list_text (map number_text sizes) ∷ list_text (map freq_text freqs) ∷ []
 declaration_row (e.DeclaredUpdate by reads writes) = codes "update" ∷ number_text by ∷ list_text (map number_text reads) ∷ list_text (map write_text writes) ∷ []
 declaration_row (e.DeclaredReader room age tries) = codes "reader" ∷ number_text room ∷ number_text age ∷ number_text tries ∷ []
 declaration_row (e.DeclaredQuery reader items) = codes "query" ∷ number_text reader ∷ list_text (map number_text items) ∷ []
@@ -89,6 +90,10 @@ item_declaration item = e.DeclaredItem item.0 item.1.value item.1.rate
 -- A disk with its frequency.
 abbrev pub disk_declaration : DiskSpec → Declaration
 disk_declaration disk = e.DeclaredDisk disk.size (Some disk.freq)
+
+-- A replan with the frequency of each disk.
+abbrev pub replan_declaration : Replan → Declaration
+replan_declaration replan = e.DeclaredReplan replan.cycle (map (λ d. d.size) replan.disks) (map (λ d. Some d.freq) replan.disks)
 
 -- An update of an updater.
 abbrev pub update_declaration : ℕ → UpdateLists → Declaration
@@ -116,7 +121,8 @@ all_set s =
 abbrev pub deck_declarations : Deck → List Declaration
 deck_declarations deck =
     map item_declaration (enumerate_from 0 deck.items)
-    ++ (map disk_declaration deck.disks ++ (update_declarations 0 deck.updates ++ (map reader_declaration deck.readers ++ (query_declarations 0 deck.queries ++ (e.DeclaredScript deck.script ∷ map e.DeclaredSetting (all_set deck.settings))))))
+    ++ (map disk_declaration deck.disks ++ (map replan_declaration deck.replans ++ (update_declarations 0 deck.updates
+    ++ (map reader_declaration deck.readers ++ (query_declarations 0 deck.queries ++ (e.DeclaredScript deck.script ∷ map e.DeclaredSetting (all_set deck.settings)))))))
 
 -- The text of a deck.
 unfoldable pub deck_text : Deck → List ℕ

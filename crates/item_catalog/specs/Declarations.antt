@@ -23,6 +23,7 @@ use Rattle.item_catalog.specs.declared.deck.draft.settings.Setting.{Setting}
 pub data Declaration : Type 0 where
   DeclaredItem : (id value rate : ℕ) → Declaration
   DeclaredDisk : (size : ℕ) (freq : Option ℕ) → Declaration
+  DeclaredReplan : (cycle : ℕ) (sizes : List ℕ) (freqs : List (Option ℕ)) → Declaration
   DeclaredUpdate : (by : ℕ) (reads : List ℕ) (writes : List Write) → Declaration
   DeclaredReader : (room age tries : ℕ) → Declaration
   DeclaredQuery : (reader : ℕ) (items : List ℕ) → Declaration
@@ -45,6 +46,15 @@ disk_by (Some f) = or_fault fault.Form (do
   size ← number_of f.0
   freq ← freq_of f.1
   Some (DeclaredDisk size freq))
+
+-- What the fields of a replan's record spell, `replan,<cycle>,<sizes>,<freqs>`.
+abbrev pub replan_by : Option (List ℕ × List ℕ × List ℕ) → Result Declaration FaultKind
+replan_by None = Err fault.Fields
+replan_by (Some f) = or_fault fault.Form (do
+  cycle ← number_of f.0
+  sizes ← list_of number_of f.1
+  freqs ← list_of freq_of f.2
+  Some (DeclaredReplan cycle sizes freqs))
 
 -- What the fields of an update's record spell, `update,<by>,<reads>,<writes>`.
 abbrev pub update_by : Option (List ℕ × List ℕ × List ℕ) → Result Declaration FaultKind
@@ -96,12 +106,14 @@ tag_of text =
     else if text is codes "query" then Some t.Query
     else if text is codes "script" then Some t.Script
     else if text is codes "set" then Some t.Set
+    else if text is codes "replan" then Some t.Replan
     else None
 
 -- What the fields after a tag spell.
 abbrev pub declaration_by : Option Tag → List (List ℕ) → Result Declaration FaultKind
 declaration_by (Some t.Item) fields = item_by (three_of fields)
 declaration_by (Some t.Disk) fields = disk_by (two_of fields)
+declaration_by (Some t.Replan) fields = replan_by (three_of fields)
 declaration_by (Some t.Update) fields = update_by (three_of fields)
 declaration_by (Some t.Reader) fields = reader_by (three_of fields)
 declaration_by (Some t.Query) fields = query_by (two_of fields)

@@ -6,7 +6,7 @@
 use Rattle.std.specs.Prelude.{◌+◌, ◌==◌, ◌||◌, ◌++◌, ℕ, zero, suc, List, [], ◌∷◌, Bool, false, not, Option, Some, None, Result, length, take, nat_lt, nat_le, map, count_by, slice_get}
 use Rattle.std.specs.List.{list_any, filter_map, sum_by}
 use Rattle.std.specs.Result.{result_ok}
-use Rattle.air_base.specs.declared.limits.TheConstants.{MOST_AGE, MOST_ASKED, MOST_DISKS, MOST_EVENTS, MOST_FREQ, MOST_ITEMS, MOST_QUERIES, MOST_RATE, MOST_READERS, MOST_READS, MOST_ROOM, MOST_SIZE, MOST_STARTS, MOST_TRIES, MOST_UPDATERS, MOST_UPDATES, MOST_WRITES}
+use Rattle.air_base.specs.declared.limits.TheConstants.{MOST_AGE, MOST_ASKED, MOST_CYCLES, MOST_DISKS, MOST_EVENTS, MOST_FREQ, MOST_ITEMS, MOST_QUERIES, MOST_RATE, MOST_READERS, MOST_READS, MOST_REPLANS, MOST_ROOM, MOST_SIZE, MOST_STARTS, MOST_TRIES, MOST_UPDATERS, MOST_UPDATES, MOST_WRITES}
 use Rattle.air_history.specs.declared.updates.Write.{Write}
 use Rattle.air_history.specs.UpdateRules.{has_repeat, written_item}
 use Rattle.air_model.specs.Buckets.{most_count}
@@ -17,7 +17,7 @@ use Rattle.item_catalog.specs.DeckLimits.{is_start_part}
 use Rattle.item_catalog.specs.Ranges.{outside}
 use Rattle.item_catalog.specs.Declarations.{Declaration, spelled_declaration}
 use Rattle.item_catalog.specs.Declarations as e
-use Rattle.item_catalog.specs.Parts.{items_in, disk_parts_in, updates_in, count_updates, readers_in, count_queries, script_in, set_in}
+use Rattle.item_catalog.specs.Parts.{ReplanSaid, items_in, disk_parts_in, last_cycle, replans_in, updates_in, count_updates, readers_in, count_queries, script_in, set_in}
 use Rattle.item_catalog.specs.Settings.{number_in, same_setting}
 use Rattle.item_catalog.specs.Kinds.{deck_kind_number}
 use Rattle.item_catalog.specs.declared.faults.FaultKind.{FaultKind}
@@ -45,6 +45,15 @@ item_tests items id rate =
 abbrev pub disk_tests : ℕ → ℕ → Option ℕ → List (FaultKind × Bool)
 disk_tests disks size freq =
     (fault.Limit, outside 1 MOST_SIZE size || option_any (outside 1 MOST_FREQ) freq || nat_le MOST_DISKS disks) ∷ []
+
+-- The tests of a replan after so many replans, the last of which has this cycle.
+abbrev pub replan_tests : ℕ → ℕ → ℕ → List ℕ → List (Option ℕ) → List (FaultKind × Bool)
+replan_tests replans last cycle sizes freqs = (
+  fault.Limit,
+  nat_le MOST_REPLANS replans || outside 2 MOST_CYCLES cycle || nat_le cycle last
+      || outside 1 MOST_DISKS (length sizes) || list_any (outside 1 MOST_SIZE) sizes || list_any (option_any (outside 1 MOST_FREQ)) freqs,
+) ∷
+    (fault.Lengths, not (length sizes == length freqs)) ∷ []
 
 -- The tests of an update after so many items and updates.
 abbrev pub update_tests : ℕ → ℕ → ℕ → List ℕ → List Write → List (FaultKind × Bool)
@@ -88,16 +97,21 @@ set_tests set setting =
 abbrev pub tests_of : List Declaration → Declaration → List (FaultKind × Bool)
 tests_of before (e.DeclaredItem id value rate) = item_tests (length (items_in before)) id rate
 tests_of before (e.DeclaredDisk size freq) = disk_tests (length (disk_parts_in before)) size freq
+tests_of before (e.DeclaredReplan cycle sizes freqs) = replan_tests (length (replans_in before)) (last_cycle (replans_in before)) cycle sizes freqs
 tests_of before (e.DeclaredUpdate by reads writes) = update_tests (length (items_in before)) (count_updates before) by reads writes
 tests_of before (e.DeclaredReader room age tries) = reader_tests (length (readers_in before)) room age tries
 tests_of before (e.DeclaredQuery reader items) = query_tests (length (items_in before)) (length (readers_in before)) (count_queries before) reader items
 tests_of before (e.DeclaredScript events) = script_tests (λ by. length (updates_in before by)) (script_in before) events
 tests_of before (e.DeclaredSetting setting) = set_tests (set_in before) setting
 
--- The tests of the end after so many items, these disks and settings.
-abbrev pub end_tests : ℕ → List DiskPart → List Setting → List (FaultKind × Bool)
-end_tests items disks set =
-    (fault.Sizes, not (sum_by (λ d. d.size) disks == items)) ∷
+-- The sizes of disks don't add up to so many items.
+abbrev pub differs_from : ℕ → List DiskPart → Bool
+differs_from items disks = not (sum_by (λ d. d.size) disks == items)
+
+-- The tests of the end after so many items, these disks, replans and settings.
+abbrev pub end_tests : ℕ → List DiskPart → List ReplanSaid → List Setting → List (FaultKind × Bool)
+end_tests items disks replans set =
+    (fault.Sizes, differs_from items disks || list_any (λ replan. differs_from items replan.disks) replans) ∷
     (fault.Limit, items == 0 || length disks == 0 || nat_lt (most_count (number_in Version set)) items) ∷ []
 
 -- The numbers of the kinds that apply to what a record spells, after declarations.
@@ -111,7 +125,7 @@ declarations_in records = filter_map (λ fields. result_ok (spelled_declaration 
 -- The numbers of the kinds that apply to a record after declarations, and at the end, where there is no record.
 abbrev pub place_kinds : List Declaration → Option (List (List ℕ)) → List ℕ
 place_kinds before (Some fields) = kinds_after before (spelled_declaration fields)
-place_kinds before None = kinds_of deck_kind_number (end_tests (length (items_in before)) (disk_parts_in before) (set_in before))
+place_kinds before None = kinds_of deck_kind_number (end_tests (length (items_in before)) (disk_parts_in before) (replans_in before) (set_in before))
 
 -- The numbers of the kinds that apply at a place, counted from 0: to the record there, after all records before it, or at the end.
 unfoldable pub kinds_at : List (List (List ℕ)) → ℕ → List ℕ

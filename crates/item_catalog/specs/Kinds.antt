@@ -16,3 +16,4 @@ deck_kind_number fault.Unread = 8
 deck_kind_number fault.Tag = 9
 deck_kind_number fault.Setting = 10
 deck_kind_number fault.Overdrawn = 11
+deck_kind_number fault.Lengths = 13

@@ -7,6 +7,7 @@ pub mod Parts
 pub mod Decks
 pub mod DeckLimits
 pub mod DeckFields
+pub mod ReplanView
 pub mod Faults
 pub mod Grammar
 pub mod Private

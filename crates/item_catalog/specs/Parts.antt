@@ -1,5 +1,5 @@
 -- What declarations declare, part by part; each part has its declarations' order, whatever stands between them.
-use Rattle.std.specs.Prelude.{◌+◌, ◌==◌, ℕ, List, [], ◌∷◌, Bool, true, false, Option, Some, None, map, max, count_by, if◌then◌else◌}
+use Rattle.std.specs.Prelude.{◌+◌, ◌==◌, ℕ, List, [], ◌∷◌, Bool, true, false, Option, Some, None, fold, map, max, count_by, if◌then◌else◌}
 use Rattle.std.specs.List.{filter_map, flat_map}
 use Rattle.air_history.specs.UpdateLists.{UpdateLists}
 use Rattle.air_model.specs.declared.deck.ReaderPlan.{ReaderPlan}
@@ -26,6 +26,29 @@ its_disk declaration = None
 -- All disks, in order.
 abbrev pub disk_parts_in : List Declaration → List DiskPart
 disk_parts_in declarations = filter_map its_disk declarations
+
+-- A replan as its record says it: the cycle, and the disks.
+pub record ReplanSaid : Type 0 where
+  pub cycle : ℕ
+  pub disks : List DiskPart
+
+-- The disks of a list of sizes and one of frequencies, in order.
+abbrev pub disks_said : List ℕ → List (Option ℕ) → List DiskPart
+disks_said (size ∷ sizes) (freq ∷ freqs) = record { size = size; freq = freq } ∷ disks_said sizes freqs
+disks_said sizes freqs = []
+
+-- The replan that a declaration declares.
+abbrev pub its_replan : Declaration → Option ReplanSaid
+its_replan (e.DeclaredReplan cycle sizes freqs) = Some (record { cycle = cycle; disks = disks_said sizes freqs })
+its_replan declaration = None
+
+-- All replans, in order.
+abbrev pub replans_in : List Declaration → List ReplanSaid
+replans_in declarations = filter_map its_replan declarations
+
+-- The cycle of the last replan, or 0 where there is none.
+abbrev pub last_cycle : List ReplanSaid → ℕ
+last_cycle replans = fold (λ (cycle : ℕ) replan. replan.cycle) 0 replans
 
 -- The update that a declaration gives the updater.
 abbrev pub its_update : ℕ → Declaration → Option UpdateLists

@@ -4,4 +4,5 @@ pub mod Drafts
 pub mod DraftFields
 pub mod ReadEnds
 pub mod ScriptFields
+pub mod ReplanLists
 pub mod WriteParts

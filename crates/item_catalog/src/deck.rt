@@ -1,14 +1,16 @@
 //! A deck in the grammar, as its records say it.
 
-ghost use Rattle.std.specs.Prelude.{◌≡◌, ◌<◌, ◌≤◌, ◌+◌, ◌*◌, [], length, get_or, slice_get, IfSome, Some};
-ghost use Rattle.air_base.specs.declared.limits.TheConstants.{MOST_ASKED, MOST_DELTA, MOST_DISKS, MOST_EVENTS, MOST_FREQ, MOST_ITEMS, MOST_QUERIES, MOST_RATE, MOST_READERS, MOST_SIZE, MOST_STARTS, MOST_UPDATERS};
+ghost use Rattle.std.specs.Prelude.{◌≡◌, ◌<◌, ◌≤◌, [], length, get_or, slice_get, IfSome, Some};
+ghost use Rattle.air_base.specs.declared.limits.TheConstants.{MOST_ASKED, MOST_DISKS, MOST_EVENTS, MOST_FREQ, MOST_ITEMS, MOST_QUERIES, MOST_RATE, MOST_READERS, MOST_REPLANS, MOST_SIZE, MOST_STARTS, MOST_UPDATERS};
 ghost use Rattle.air_model.specs.Decks.{IsDeck, updates_by};
 ghost use Rattle.item_catalog.specs.DeckLimits.{WithinLimits, script_starts};
 
 pub(crate) mod draft;
 pub mod drill;
+pub mod replans;
 
-use crate::parts::{DiskPart, ItemPart, Queries, Updates};
+use crate::deck::replans::{Replan, freq_at};
+use crate::parts::{DiskPart, ItemPart, Queries, ReplanPart, Updates};
 use air_history::Update;
 use air_model::deck::{ReaderPlan, Settings};
 use std::marker::Model;
@@ -18,6 +20,7 @@ use std::marker::Model;
 pub struct Deck {
     items: Vec<ItemPart>,
     disks: Vec<DiskPart>,
+    replans: Vec<ReplanPart>,
     delta: u32,
     updates: Vec<Updates>,
     readers: Vec<ReaderPlan>,
@@ -73,7 +76,7 @@ impl Deck {
         self.items[i as usize].rate
     }
 
-    /// The number of disks.
+    /// The number of the deck's own disks, which are in force before its replans.
     pub fn disks(&self) -> u32
         ensures told { result ≡ length self.now.disks }
         ensures few { result ≤ MOST_DISKS }
@@ -81,7 +84,7 @@ impl Deck {
         self.disks.len() as u32
     }
 
-    /// The number of items of a disk.
+    /// The number of items of one of its own disks.
     pub fn size(&self, d: u32) -> u16
         requires { d < length self.now.disks }
         ensures told { IfSome (slice_get self.now.disks d) (λ disk. result ≡ disk.size) }
@@ -91,17 +94,30 @@ impl Deck {
         self.disks[d as usize].size
     }
 
-    /// How often a cycle airs each item of a disk.
+    /// How often a cycle airs each item of one of its own disks.
     pub fn freq(&self, d: u32) -> u32
         requires { d < length self.now.disks }
         ensures told { IfSome (slice_get self.now.disks d) (λ disk. result ≡ disk.freq) }
         ensures some { 1 ≤ result }
         ensures few { result ≤ MOST_FREQ }
     {
-        match self.disks[d as usize].freq {
-            Some(freq) => freq,
-            None => graded_freq(self.disks.len() as u32 - 1 - d, self.delta),
-        }
+        freq_at(&self.disks, self.delta, d)
+    }
+
+    /// The number of replans.
+    pub fn replans(&self) -> u32
+        ensures told { result ≡ length self.now.replans }
+        ensures few { result ≤ MOST_REPLANS }
+    {
+        self.replans.len() as u32
+    }
+
+    /// A replan, whose program is in force from its cycle on.
+    pub fn replan(&self, k: u32) -> Replan<'_>
+        requires { k < length self.now.replans }
+        ensures { slice_get self.now.replans k ≡ Some result }
+    {
+        Replan::of_part(&self.replans[k as usize], self.delta)
     }
 
     /// The number of updaters.
@@ -185,13 +201,4 @@ impl Deck {
     {
         self.settings
     }
-}
-
-/// The frequency of a disk that says `-`, by the number of disks after it.
-fn graded_freq(after: u32, delta: u32) -> u32
-    requires few { after < MOST_DISKS }
-    requires small { delta ≤ MOST_DELTA }
-    ensures { result ≡ after * delta + 1 }
-{
-    after * delta + 1
 }

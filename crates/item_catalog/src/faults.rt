@@ -20,7 +20,7 @@ pub enum FaultKind {
     Undeclared,
     /// An item stands twice in a list.
     Twice,
-    /// The sizes of the disks don't add up to the number of items.
+    /// The sizes of the disks, or of those of a replan, don't add up to the number of items.
     Sizes,
     /// A limit is passed, or there is no item or no disk.
     Limit,
@@ -32,6 +32,8 @@ pub enum FaultKind {
     Setting,
     /// An updater commits more updates than it has.
     Overdrawn,
+    /// The sizes and the frequencies of a replan aren't as many.
+    Lengths,
 }
 
 impl FaultKind {
@@ -51,24 +53,27 @@ impl FaultKind {
             FaultKind::Tag => 9,
             FaultKind::Setting => 10,
             FaultKind::Overdrawn => 11,
+            FaultKind::Lengths => 13,
         }
     }
 }
 
-/// What is said of the kind of each number; no kind has the number 0.
-const SENTENCES: [&str; 12] = [
+/// What is said of the kind of each number; no kind has the number 0 or 12.
+const SENTENCES: [&str; 14] = [
     "there is a fault",
     "its tag has another number of fields",
     "a field isn't of its form",
     "an item's id isn't the number of items before it",
     "an item or a reader isn't declared before it",
     "an item stands twice in a list",
-    "the sizes of the disks don't add up to the number of items",
+    "the sizes of the disks, or those of a replan, don't add up to the number of items",
     "a limit is passed, or there is no item or no disk",
     "a base isn't among the reads",
     "its tag is unknown",
     "its setting is unknown, was set before, or has no such value",
     "an updater commits more updates than it has",
+    "there is a fault",
+    "the sizes and the frequencies of a replan aren't as many",
 ];
 
 /// The first faulty record of a text, counted from 1, and the least kind of fault that applies there. The end is the record

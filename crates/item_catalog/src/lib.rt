@@ -18,6 +18,7 @@ mod updates;
 
 pub use deck::Deck;
 pub use deck::drill::{MOST_DRILL_SIZE, drill_deck};
+pub use deck::replans::Replan;
 pub use drills::draws::{draw_item, draw_query, draw_update};
 pub use drills::settings::drill_settings;
 pub use faults::{DeckError, DeckFault};

@@ -1,6 +1,8 @@
 //! The parts of a deck that other crates have no type for, and what the record of a disk says of its frequency.
 
-ghost use Rattle.std.specs.Prelude.{◌≡◌, ◌≤◌, ◌++◌, ◌∷◌, [], false, length, is_ok, sum_by, if◌then◌else◌};
+ghost use Rattle.std.specs.Prelude.{◌≡◌, ◌≤◌, ◌++◌, ◌∷◌, [], All, false, length, is_ok, sum_by, if◌then◌else◌};
+ghost use Rattle.std.specs.List.{list_any};
+ghost use Rattle.item_catalog.specs.Faults.{differs_from};
 ghost use Rattle.item_catalog.specs.ListTests.{option_any};
 ghost use Rattle.item_catalog.specs.Fields.{freq_of};
 ghost use Rattle.item_catalog.specs.Ranges.{outside};
@@ -23,6 +25,44 @@ pub struct ItemPart {
 pub struct DiskPart {
     pub size: u16,
     pub freq: Option<u32>,
+}
+
+/// A replan as its record says it: the cycle, and the disks.
+#[derive(Debug, Drop)]
+pub struct ReplanPart {
+    cycle: u32,
+    disks: Vec<DiskPart>,
+}
+
+impl Model for ReplanPart {
+    ghost use Rattle.item_catalog.specs.Parts.{ReplanSaid};
+
+    ghost Value = { ReplanSaid };
+
+    ghost view = { λ r. record { cycle = r.cycle; disks = r.disks.items } };
+}
+
+impl ReplanPart {
+    /// The replan of a cycle and of disks.
+    pub fn new(cycle: u32, disks: Vec<DiskPart>) -> Self
+        ensures { result ≡ record { cycle = cycle; disks = disks.items } }
+    {
+        ReplanPart { cycle, disks }
+    }
+
+    /// The cycle.
+    pub fn cycle(&self) -> u32
+        ensures { result ≡ self.now.cycle }
+    {
+        self.cycle
+    }
+
+    /// The disks.
+    pub fn disks(&self) -> &[DiskPart]
+        ensures { result.now ≡ self.now.disks }
+    {
+        &self.disks
+    }
 }
 
 /// The frequency that the text spells: none is `-`.
@@ -66,6 +106,27 @@ pub fn sizes_of(disks: &[DiskPart]) -> u32
     ensures { result ≡ sum_by (λ d. d.size) disks.now }
 {
     disks.iter().map(|disk| u32::from(disk.size)).sum::<u32>()
+}
+
+/// Whether the sizes of disks don't add up to so many items.
+fn differs_from(items: usize, disks: &[DiskPart]) -> bool
+    requires { length disks.now ≤ MOST_DISKS }
+    ensures { result ≡ differs_from items disks.now }
+{
+    sizes_of(disks) as usize != items
+}
+
+/// Whether the sizes of the disks of some replan don't add up to so many items.
+pub fn some_differs(items: usize, replans: &[ReplanPart]) -> bool
+    requires { All (λ r. length r.disks ≤ MOST_DISKS) replans.now }
+    ensures { result ≡ list_any (λ replan. differs_from items replan.disks) replans.now }
+{
+    for replan in replans {
+        if differs_from(items, replan.disks()) {
+            return true;
+        }
+    }
+    false
 }
 
 /// The updates of an updater, in order.

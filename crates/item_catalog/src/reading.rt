@@ -23,6 +23,7 @@ use std::alloc::Global;
 pub(crate) enum Tag {
     Item,
     Disk,
+    Replan,
     Update,
     Reader,
     Query,
@@ -48,6 +49,8 @@ fn tag_of(text: &[u8]) -> Option<Tag>
         Some(Tag::Script)
     } else if text == b"set".as_slice() {
         Some(Tag::Set)
+    } else if text == b"replan".as_slice() {
+        Some(Tag::Replan)
     } else {
         None
     }
@@ -66,8 +69,8 @@ pub(crate) fn read_tag(fields: &ByteRecord) -> Option<Tag>
 /// The deck of the parts, where no kind applies at the end, which is the record of this number.
 fn finish(draft: Draft, row: u32) -> Result<Deck, DeckError>
     requires { CanEnd draft }
-    ensures deck { IfOk result (λ deck. (first_of (end_tests (length draft.items) draft.disks draft.set) ≡ None) × (deck ≡ deck_from draft)) }
-    ensures fault { IfErr result (EndsBy row (first_of (end_tests (length draft.items) draft.disks draft.set))) }
+    ensures deck { IfOk result (λ deck. (first_of (end_tests (length draft.items) draft.disks draft.replans draft.set) ≡ None) × (deck ≡ deck_from draft)) }
+    ensures fault { IfErr result (EndsBy row (first_of (end_tests (length draft.items) draft.disks draft.replans draft.set))) }
 {
     match draft.end_kind() {
         Some(kind) => Err(DeckError::at(row, kind)),

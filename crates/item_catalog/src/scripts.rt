@@ -9,7 +9,7 @@ ghost use Rattle.air_base.specs.NumberLists.{list_of};
 ghost use Rattle.air_model.specs.Decks.{count_parts};
 ghost use Rattle.item_catalog.specs.Fields.{spelled_event};
 ghost use Rattle.item_catalog.specs.Faults.{count_starts, script_passes, some_below};
-ghost use Rattle.item_catalog.specs.Private.ScriptFields.{EventsRead, begins_start};
+ghost use Rattle.item_catalog.specs.Private.ScriptFields.{EventsRead, stands_alone};
 
 use crate::parts::Updates;
 use air_base::limits::{MOST_EVENTS, MOST_STARTS, MOST_UPDATERS};
@@ -146,22 +146,22 @@ impl Script {
     }
 }
 
-/// Whether the first part is the `s` of a start.
-fn begins_start(text: &[u8]) -> bool
-    ensures { result ≡ begins_start text.now }
+/// Whether the first part of a text is this byte alone.
+pub fn stands_alone(byte: u8, text: &[u8]) -> bool
+    ensures { result ≡ stands_alone byte text.now }
 {
     match text.split_first() {
         None => false,
-        Some((byte, rest)) => *byte == b's' && ends_part(rest),
+        Some((first, rest)) => *first == byte && ends_part(rest),
     }
 }
 
 /// The event that the first part spells: none is a start.
-#[tactic(auto, using(crate::proofs::LeadingEventLemmas::event_start, crate::proofs::LeadingEventLemmas::event_number, crate::proofs::LeadingEventLemmas::start_after))]
+#[tactic(auto, using(crate::proofs::PartWords::start_event, crate::proofs::PartWords::number_event, crate::proofs::PartWords::after_start))]
 fn leading_event(text: &[u8]) -> Option<(Option<u64>, &[u8])>
     ensures { LeadingIs spelled_event text.now (option_map (λ f. (f.0, f.1.now)) result) }
 {
-    if begins_start(text) {
+    if stands_alone(b's', text) {
         return Some((None, &text[1..]));
     }
     match read_leading_number(text) {

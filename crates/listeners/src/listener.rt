@@ -46,7 +46,7 @@ impl Listener {
     {
         Ok(Listener {
             number,
-            receiver: Receiver::new(alloc, planned.deck(), number, planned.program())?,
+            receiver: Receiver::new(alloc, planned.deck(), number, planned.plans())?,
             lines: Vec::new(alloc),
         })
     }

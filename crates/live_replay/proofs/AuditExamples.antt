@@ -57,13 +57,13 @@ small_is_deck = record {
   aired = pair_is_deck.aired;
   few = pair_is_deck.few;
   from_two = pair_is_deck.from_two;
+  within_a_run = pair_is_deck.within_a_run;
   rising = pair_is_deck.rising;
   updates = All-nil (All (IsUpdate 2));
   readers = refl;
   tries = pair_is_deck.tries;
   queries = pair_is_deck.queries;
   script = λ by. omega arith;
-  plain = refl;
 }
 
 -- The one history of a run of it.

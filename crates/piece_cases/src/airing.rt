@@ -58,7 +58,7 @@ pub fn air<T: Threads + Sync>(
     air_pieces(threads, alloc, &planned, cycles, came)
 }
 
-/// The same, of a deck with its program.
+/// The same, of a deck with its plans.
 fn air_pieces<T: Threads + Sync>(
     threads: &T,
     alloc: Global,
@@ -102,7 +102,7 @@ pub fn run(
     run_pieces(alloc, &planned, room, &pieces, came)
 }
 
-/// The same, of a deck with its program. After each piece it is told whether all events were run.
+/// The same, of a deck with its plans. After each piece it is told whether all events were run.
 fn run_pieces(
     alloc: Global,
     planned: &Planned,

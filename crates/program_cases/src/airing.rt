@@ -36,7 +36,8 @@ fn air<M: Mast>(
     let form = Form { policy, version };
     let long = bucket_room(planned);
     let mut buf = vec![in alloc; 0xeeu8; long + usize::from(after)]?;
-    match air_cycle(planned.program(), board, form, mast, &mut buf) {
+    let program = planned.plans().in_force(board.cycle());
+    match air_cycle(program, board, form, mast, &mut buf) {
         Ok(()) => add_line(b"aired", &[], came)?,
         Err(AirFault::Mast { slot }) => add_line(b"failed at slot", &[u64::from(slot)], came)?,
     }
@@ -62,7 +63,7 @@ pub fn tell_aired(
 {
     if word == b"length".as_slice() {
         let cycles = parts.narrow();
-        let bytes = tape_bytes(planned.program(), board.n(), cycles, own_form(planned));
+        let bytes = tape_bytes(planned.plans(), board.n(), cycles, own_form(planned));
         return add_line(b"bytes", &[bytes], came);
     }
     let policy = parts.policy();

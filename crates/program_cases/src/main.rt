@@ -1,8 +1,9 @@
 //! Plays cases of decks' cuts and programs, of the cycles that are aired from a deck's board, and of the mast that gathers a tape.
 //!
 //! `items` and `disks` spell the text of a deck, `repeat` goes on with the items, and each question after them reads it again: `slots`, `plan`,
-//! `cut` and `wait` ask for its program, `length`, `air` and `memory` for what is aired. The board is that of the deck's script and of one start more. `mast` makes
-//! the mast of a room, which `air`, `aim`, `send`, `finish`, `tape` and `clear` are about.
+//! `cut` and `wait` ask for the program of the edition that `edition` names, `in-force` for the edition of a cycle, `length`, `air` and
+//! `memory` for what is aired. The board is that of the deck's script and of one start more. `mast` makes the mast of a room, which `air`,
+//! `aim`, `send`, `finish`, `tape` and `clear` are about.
 #![tactic(auto)]
 
 mod airing;
@@ -14,16 +15,17 @@ use air_base::NoMemory;
 use air_base::limits::MOST_DECK_BYTES;
 use air_sender::TapeMast;
 use case_lines::{BadCase, Parts, Player, add_line, play_stdin};
-use chunk_program::PlanFault;
+use chunk_program::{PlanFault, Planned};
 use item_catalog::read_deck;
 use std::alloc::Global;
 use std::io;
 
-/// The deck's text in two parts, and the mast that gathers a tape.
+/// The deck's text in two parts, the edition that is asked about, and the mast that gathers a tape.
 #[derive(Drop)]
 struct ProgramPlayer {
     items: Vec<u8>,
     disks: Vec<u8>,
+    edition: u32,
     mast: TapeMast,
 }
 
@@ -45,15 +47,15 @@ impl ProgramPlayer {
         let Ok(deck) = read_deck(alloc, &text) else {
             return add_line(b"no deck", &[], came);
         };
-        let (cut, planned) = match plans::plan_deck(alloc, deck) {
-            Ok(made) => made,
+        let planned = match Planned::new(alloc, deck) {
+            Ok(planned) => planned,
             Err(fault) => return plans::tell_fault(alloc, &fault, came),
         };
         match word {
-            b"slots" => add_line(b"slots", &[u64::from(planned.program().slots())], came),
-            b"plan" => plans::tell_plan(&planned, &cut, came),
-            b"cut" => plans::tell_cut(&cut, came),
-            b"wait" => plans::tell_wait(planned.program(), &cut, parts, came),
+            b"slots" | b"plan" | b"cut" | b"wait" => {
+                plans::tell_edition(alloc, &planned, self.edition, word, parts, came)
+            }
+            b"in-force" => plans::tell_in_force(&planned, parts, came),
             _ => match boards::started_board(alloc, planned.deck())? {
                 Some(board) if planned.deck().items() == board.n() => {
                     airing::tell_aired(alloc, &planned, &board, word, parts, &mut self.mast, came)
@@ -76,6 +78,7 @@ impl Player for ProgramPlayer {
             b"items" => self.items = parts.text(alloc)?,
             b"repeat" => self.items.extend_from_slice(&parts.rows(alloc)?)?,
             b"disks" => self.disks = parts.text(alloc)?,
+            b"edition" => self.edition = parts.narrow(),
             b"mast" => self.mast = TapeMast::new(alloc, parts.number())?,
             b"tape" => tapes::add_records(self.mast.tape(), came)?,
             b"clear" => self.mast.clear(),
@@ -83,9 +86,10 @@ impl Player for ProgramPlayer {
                 airing::tell_call(alloc, &mut self.mast, word, parts, came)?;
             }
             b"memory-fault" => plans::tell_fault(alloc, &PlanFault::NoMemory, came)?,
-            b"slots" | b"plan" | b"cut" | b"wait" | b"length" | b"air" | b"memory" => {
+            b"slots" | b"plan" | b"cut" | b"wait" | b"in-force" => {
                 self.ask(alloc, word, parts, came)?;
             }
+            b"length" | b"air" | b"memory" => self.ask(alloc, word, parts, came)?,
             _ => parts.refuse(BadCase::NoSuchWord),
         }
         Ok(())
@@ -99,6 +103,7 @@ fn main(rt: HostRuntime) -> io::Result<()> {
     let mut player = ProgramPlayer {
         items: Vec::new(rt.alloc()),
         disks: Vec::new(rt.alloc()),
+        edition: 0,
         mast,
     };
     play_stdin(&rt, &mut player)

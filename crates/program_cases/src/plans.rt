@@ -1,9 +1,12 @@
 //! Cases of cuts and programs: where each item is, and what the slots of a cycle carry.
 //!
-//! `plan` and `cut` tell all that the program and the cut say; `wait` has a slot and an item, and asks how far off the item is.
+//! `plan` and `cut` tell all that the program and the cut of an edition say; `wait` has a slot and an item, and asks how far off the item
+//! is; `in-force` has a cycle, and asks for its edition.
 
-ghost use Rattle.std.specs.Prelude.{◌≡◌, ◌≤◌, IfOk};
-ghost use Rattle.air_model.specs.Decks.{disks_in};
+ghost use Rattle.std.specs.Prelude.{◌≡◌, ◌≤◌, ◌<◌, length};
+ghost use Rattle.air_model.specs.Decks.{count_editions, disks_in, specs_in};
+ghost use Rattle.air_model.specs.Disks.{all_items};
+ghost use Rattle.air_model.specs.Programs.{program as slots_of};
 
 use air_base::limits::MOST_ITEMS;
 use air_base::{NoMemory, write_u64};
@@ -12,31 +15,44 @@ use chunk_program::{Cut, PlanFault, Planned, Program, cut};
 use item_catalog::Deck;
 use std::alloc::Global;
 
-/// The cut of a deck, and the deck with its program, or why there is none.
-pub fn plan_deck(alloc: Global, deck: Deck) -> Result<(Cut, Planned), PlanFault>
-    ensures { IfOk result (λ p. p.0 ≡ disks_in p.1 0) }
-{
-    let Ok(cut) = cut(alloc, &deck) else {
-        return Err(PlanFault::NoMemory);
-    };
-    let planned = Planned::new(alloc, deck, &cut)?;
-    Ok((cut, planned))
-}
-
 /// Adds the text of the fault.
 pub fn tell_fault(alloc: Global, fault: &PlanFault, came: &mut Vec<u8>) -> Result<(), NoMemory> {
     add_line(fault.to_string(alloc)?.as_bytes(), &[], came)
 }
 
+/// The number of disks of an edition.
+fn disks_of(deck: &Deck, edition: u32) -> u32
+    requires { edition < count_editions deck.now }
+    ensures { result ≡ length (specs_in deck.now edition) }
+{
+    if edition == 0 {
+        return deck.disks();
+    }
+    deck.replan(edition - 1).disks()
+}
+
+/// The frequency of a disk of an edition.
+fn freq_of(deck: &Deck, edition: u32, disk: u32) -> u32
+    requires edition { edition < count_editions deck.now }
+    requires disk { disk < length (specs_in deck.now edition) }
+{
+    if edition == 0 {
+        return deck.freq(disk);
+    }
+    deck.replan(edition - 1).freq(disk)
+}
+
 /// Adds for each disk its frequency, the number of its chunks and their length.
 #[tactic(auto, using(chunk_program::proofs::CutLemmas::length_disks_in))]
-fn add_disks(planned: &Planned, out: &mut Vec<u8>) -> Result<(), NoMemory> {
+fn add_disks(planned: &Planned, edition: u32, out: &mut Vec<u8>) -> Result<(), NoMemory>
+    requires { edition < count_editions planned.now }
+{
     let deck = planned.deck();
-    let program = planned.program();
-    for disk in 0..deck.disks() {
+    let program = planned.program(edition);
+    for disk in 0..disks_of(deck, edition) {
         let numbers = [
             u64::from(disk),
-            u64::from(deck.freq(disk)),
+            u64::from(freq_of(deck, edition, disk)),
             u64::from(program.chunks(disk)),
             u64::from(program.chunk_len(disk)),
         ];
@@ -76,12 +92,12 @@ fn rate_of(deck: &Deck, item: u16) -> u32
 }
 
 /// Adds for each item its disk, how often and how far apart it comes, its first slot, and its PIX number at its rate.
-fn add_items(planned: &Planned, cut: &Cut, out: &mut Vec<u8>) -> Result<(), NoMemory>
-    requires { cut.now ≡ disks_in planned.now 0 }
+fn add_items(deck: &Deck, program: &Program, cut: &Cut, out: &mut Vec<u8>) -> Result<(), NoMemory>
+    requires cut { cut.now ≡ program.now.disks }
+    requires items { length (all_items program.now.disks) ≡ length deck.now.items }
+    requires some { 1 ≤ length (slots_of program.now.disks) }
 {
-    let deck = planned.deck();
-    let program = planned.program();
-    for item in 0..cut.order().len() as u16 {
+    for item in 0..deck.items() {
         let numbers = [
             u64::from(item),
             u64::from(cut.disk_of(item)),
@@ -96,23 +112,24 @@ fn add_items(planned: &Planned, cut: &Cut, out: &mut Vec<u8>) -> Result<(), NoMe
 }
 
 /// The plan: slots, minor cycles and their length, the disks, the slots of each minor cycle, and the items.
-pub fn tell_plan(planned: &Planned, cut: &Cut, came: &mut Vec<u8>) -> Result<(), NoMemory>
-    requires { cut.now ≡ disks_in planned.now 0 }
+fn tell_plan(planned: &Planned, edition: u32, cut: &Cut, came: &mut Vec<u8>) -> Result<(), NoMemory>
+    requires edition { edition < count_editions planned.now }
+    requires cut { cut.now ≡ disks_in planned.now edition }
 {
-    let program = planned.program();
+    let program = planned.program(edition);
     let numbers = [
         u64::from(program.slots()),
         u64::from(program.minors()),
         u64::from(program.minor_len()),
     ];
     add_line(b"program", &numbers, came)?;
-    add_disks(planned, came)?;
+    add_disks(planned, edition, came)?;
     add_slots(program, came)?;
-    add_items(planned, cut, came)
+    add_items(planned.deck(), program, cut, came)
 }
 
 /// The order of the items, and of each its disk and its place there.
-pub fn tell_cut(cut: &Cut, came: &mut Vec<u8>) -> Result<(), NoMemory> {
+fn tell_cut(cut: &Cut, came: &mut Vec<u8>) -> Result<(), NoMemory> {
     for item in cut.order() {
         add_line(b"next", &[u64::from(*item)], came)?;
     }
@@ -133,13 +150,13 @@ fn add_homes(cut: &Cut, came: &mut Vec<u8>) -> Result<(), NoMemory> {
 }
 
 /// The number of slots from a slot to the next one of an item.
-pub fn tell_wait(
+fn tell_wait(
     program: &Program,
     cut: &Cut,
     parts: &mut Parts<'_>,
     came: &mut Vec<u8>,
 ) -> Result<(), NoMemory>
-    requires { cut.now ≡ program.now }
+    requires { cut.now ≡ program.now.disks }
 {
     let slot = parts.number();
     let item = parts.number();
@@ -148,4 +165,36 @@ pub fn tell_wait(
     }
     let wait = program.next_wake(slot as u32, item as u16);
     add_line(b"wait", &[u64::from(wait)], came)
+}
+
+/// Answers a question about an edition of the deck: its slots, its plan, its cut, or a wait.
+pub fn tell_edition(
+    alloc: Global,
+    planned: &Planned,
+    edition: u32,
+    word: &[u8],
+    parts: &mut Parts<'_>,
+    came: &mut Vec<u8>,
+) -> Result<(), NoMemory> {
+    if edition > planned.deck().replans() {
+        return add_line(b"no such edition", &[], came);
+    }
+    let program = planned.program(edition);
+    let cut = cut(alloc, planned.deck(), edition)?;
+    match word {
+        b"slots" => add_line(b"slots", &[u64::from(program.slots())], came),
+        b"plan" => tell_plan(planned, edition, &cut, came),
+        b"cut" => tell_cut(&cut, came),
+        _ => tell_wait(program, &cut, parts, came),
+    }
+}
+
+/// The edition of a cycle.
+pub fn tell_in_force(
+    planned: &Planned,
+    parts: &mut Parts<'_>,
+    came: &mut Vec<u8>,
+) -> Result<(), NoMemory> {
+    let edition = planned.plans().edition_at(parts.narrow());
+    add_line(b"edition", &[u64::from(edition)], came)
 }

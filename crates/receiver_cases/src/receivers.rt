@@ -6,7 +6,7 @@
 use air_base::limits::MOST_DECK_BYTES;
 use air_base::{NoMemory, Verdict, VerdictKind};
 use case_lines::{BadCase, Parts, add_line};
-use chunk_program::{PlanFault, Program, cut};
+use chunk_program::{PlanFault, Plans};
 use item_catalog::{DeckError, read_deck};
 use receiver_core::{Fed, Receiver, Step};
 use std::alloc::Global;
@@ -31,9 +31,8 @@ pub fn new_receiver(
             return Ok(None);
         }
     };
-    let cut = cut(alloc, &deck)?;
-    let program = match Program::plan(alloc, &deck, &cut) {
-        Ok(program) => program,
+    let plans = match Plans::plan(alloc, &deck) {
+        Ok(plans) => plans,
         Err(PlanFault::NoMemory) => return Err(NoMemory),
         Err(PlanFault::TooLong { .. }) => {
             add_line(b"no program", &[], came)?;
@@ -44,7 +43,7 @@ pub fn new_receiver(
         add_line(b"no reader", &[], came)?;
         return Ok(None);
     }
-    Ok(Some(Receiver::new(alloc, &deck, number, &program)?))
+    Ok(Some(Receiver::new(alloc, &deck, number, &plans)?))
 }
 
 /// Adds the verdict.

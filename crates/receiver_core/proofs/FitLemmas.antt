@@ -1,11 +1,9 @@
 -- When a bucket fits, from what its head tells.
-use Rattle.std.proofs.Common.{◌≡◌, ◌≢◌, ℕ, ◌<◌, ◌≤◌, ◌==◌, Bool, true, false, ◌&&◌, nat_le, nat_lt, length, get_or, Option, None, refl, sym, ◌∙◌, ap, arith}
-use Rattle.std.proofs.lemmas.Bool.{le-leb, le-ltb, lt-leb, lt-ltb, ne_eqb}
-use Rattle.std.proofs.lemmas.List.{get_or_default}
-use Rattle.air_model.specs.Aired.{Air, body_fits, fits}
+use Rattle.std.proofs.Common.{◌≡◌, ◌≢◌, ℕ, ◌<◌, ◌≤◌, ◌==◌, Bool, true, false, ◌&&◌, nat_le, nat_lt, List, length, get_or, Option, None, refl, sym, ◌∙◌, ap, arith}
+use Rattle.std.proofs.lemmas.Bool.{eq-eqb, le-leb, le-ltb, lt-leb, lt-ltb, ne_eqb}
+use Rattle.air_model.specs.Aired.{Air, body_fits, edition_at, fits, slots_at}
+use Rattle.air_model.specs.Airings.{slot_item}
 use Rattle.air_model.specs.Buckets.{Body, Bucket, Idle, Column, Vector, count_of, item_of, kind_of}
-use Rattle.receiver_core.specs.declared.airs.Air.TheInside.{Inside}
-use Rattle.receiver_core.specs.Private.AirFields.{air_in}
 use Rattle.receiver_core.specs.Private.SlotKinds.{kind_fits}
 
 and_false : (b : Bool) → (b && false) ≡ false
@@ -19,42 +17,41 @@ body_is air slot (Idle count) = refl
 body_is air slot (Column item value entries) = refl
 body_is air slot (Vector item value entries) = refl
 
--- In a version that isn't above the deck's, in the deck's edition and within the program the body decides.
-fits_in_slot : (a : Inside) (b : Bucket) → b.version ≤ a.version → b.edition ≡ 0 → b.slot < length a.slots.items →
-    fits (air_in a) b ≡ (kind_fits a.policy (get_or a.slots.items b.slot None) (kind_of b.body) (item_of b.body) && (count_of b.body == a.items))
-unfolding fits
-fits_in_slot a b v e l =
-    let body = body_fits (air_in a) (get_or a.slots.items b.slot None) b.body in
-    ap (λ t. t && (b.edition == 0) && nat_lt b.slot (length a.slots.items) && body) (le-leb b.version a.version v)
-    ∙ ap (λ n. (n == 0) && nat_lt b.slot (length a.slots.items) && body) e
-    ∙ ap (λ t. t && body) (lt-ltb b.slot (length a.slots.items) l)
-    ∙ body_is (air_in a) (get_or a.slots.items b.slot None) b.body
+module _ (air : Air) (b : Bucket) where
+  -- The body against its slot, in the program in force in the bucket's cycle.
+  abbrev body_right : Bool
+  body_right = body_fits air (get_or (slots_at air b.cycle) b.slot None) b.body
 
-pub newer_version : (a : Inside) (b : Bucket) → a.version < b.version → fits (air_in a) b ≡ false
-unfolding fits
-newer_version a b v =
-    ap (λ t. t && (b.edition == 0) && nat_lt b.slot (length a.slots.items) && body_fits (air_in a) (get_or a.slots.items b.slot None) b.body) (lt-leb b.version a.version v)
+  -- In a version that isn't above the deck's, in the edition of its cycle and within that edition's program the body decides.
+  fits_in_slot : b.version ≤ air.version → b.edition ≡ edition_at air b.cycle → b.slot < length (slots_at air b.cycle) → fits air b ≡ body_right
+  unfolding fits
+  fits_in_slot v e l =
+      ap (λ t. t && (b.edition == edition_at air b.cycle) && nat_lt b.slot (length (slots_at air b.cycle)) && body_right) (le-leb b.version air.version v)
+      ∙ ap (λ t. t && nat_lt b.slot (length (slots_at air b.cycle)) && body_right) (eq-eqb b.edition (edition_at air b.cycle) e)
+      ∙ ap (λ t. t && body_right) (lt-ltb b.slot (length (slots_at air b.cycle)) l)
 
-pub other_edition : (a : Inside) (b : Bucket) → b.edition ≢ 0 → fits (air_in a) b ≡ false
-unfolding fits
-other_edition a b e =
-    let body = body_fits (air_in a) (get_or a.slots.items b.slot None) b.body in
-    ap (λ t. nat_le b.version a.version && t && nat_lt b.slot (length a.slots.items) && body) (ne_eqb b.edition 0 e)
-    ∙ ap (λ t. t && nat_lt b.slot (length a.slots.items) && body) (and_false (nat_le b.version a.version))
+  pub newer_version : air.version < b.version → fits air b ≡ false
+  unfolding fits
+  newer_version v = ap (λ t. t && (b.edition == edition_at air b.cycle) && nat_lt b.slot (length (slots_at air b.cycle)) && body_right) (lt-leb b.version air.version v)
 
-pub no_such_slot : (a : Inside) (b : Bucket) → length a.slots.items ≤ b.slot → fits (air_in a) b ≡ false
-unfolding fits
-no_such_slot a b l =
-    let body = body_fits (air_in a) (get_or a.slots.items b.slot None) b.body in
-    ap (λ t. nat_le b.version a.version && (b.edition == 0) && t && body) (le-ltb b.slot (length a.slots.items) l)
-    ∙ ap (λ t. t && body) (and_false (nat_le b.version a.version && (b.edition == 0)))
+  pub other_edition : b.edition ≢ edition_at air b.cycle → fits air b ≡ false
+  unfolding fits
+  other_edition e =
+      ap (λ t. nat_le b.version air.version && t && nat_lt b.slot (length (slots_at air b.cycle)) && body_right) (ne_eqb b.edition (edition_at air b.cycle) e)
+      ∙ ap (λ t. t && nat_lt b.slot (length (slots_at air b.cycle)) && body_right) (and_false (nat_le b.version air.version))
 
--- The same at the fields: the answer of the slot's test and the number of items.
-pub in_slot : (a : Inside) (air : Air) (b : Bucket) (s : ℕ) (item : Option ℕ) (right : Bool) (n : ℕ) → air_in a ≡ air → s ≡ b.slot → b.version ≤ a.version → b.edition ≡ 0 → s < length a.slots.items →
-    item ≡ get_or a.slots.items s item → right ≡ kind_fits a.policy item (kind_of b.body) (item_of b.body) → n ≡ count_of b.body → (right && (n == a.items)) ≡ fits air b
-in_slot a air b s item right n is at old first within carried stands counted =
-    let here : get_or a.slots.items b.slot None ≡ item =
-    get_or_default a.slots.items b.slot None item (omega arith) ∙ ap (λ k. get_or a.slots.items k item) (sym at) ∙ sym carried in
-    ap (λ t. t && (n == a.items)) stands ∙ ap (λ m. kind_fits a.policy item (kind_of b.body) (item_of b.body) && (m == a.items)) counted
-    ∙ ap (λ o. kind_fits a.policy o (kind_of b.body) (item_of b.body) && (count_of b.body == a.items)) (sym here)
-    ∙ sym (fits_in_slot a b old first (omega arith)) ∙ ap (λ (t : Air). fits t b) is
+  pub no_such_slot : length (slots_at air b.cycle) ≤ b.slot → fits air b ≡ false
+  unfolding fits
+  no_such_slot l =
+      ap (λ t. nat_le b.version air.version && (b.edition == edition_at air b.cycle) && t && body_right) (le-ltb b.slot (length (slots_at air b.cycle)) l)
+      ∙ ap (λ t. t && body_right) (and_false (nat_le b.version air.version && (b.edition == edition_at air b.cycle)))
+
+  -- The same by the answer of the slot's test and the number of items.
+  pub in_slot : (slots : List (Option ℕ)) (s : ℕ) (item : Option ℕ) (right : Bool) (n : ℕ) → slots_at air b.cycle ≡ slots → s ≡ b.slot → b.version ≤ air.version → b.edition ≡ edition_at air b.cycle →
+      s < length slots → item ≡ slot_item slots s → right ≡ kind_fits air.scheme.policy item (kind_of b.body) (item_of b.body) → n ≡ count_of b.body → (right && (n == air.items)) ≡ fits air b
+  in_slot slots s item right n are at old own within carried stands counted =
+      let here : item ≡ get_or (slots_at air b.cycle) b.slot None = carried ∙ ap (slot_item slots) at ∙ ap (λ l. slot_item l b.slot) (sym are) in
+      let long = ap length are in
+      ap (λ t. t && (n == air.items)) stands ∙ ap (λ m. kind_fits air.scheme.policy item (kind_of b.body) (item_of b.body) && (m == air.items)) counted
+      ∙ ap (λ o. kind_fits air.scheme.policy o (kind_of b.body) (item_of b.body) && (count_of b.body == air.items)) here
+      ∙ sym (fits_in_slot old own (omega arith) ∙ body_is air (get_or (slots_at air b.cycle) b.slot None) b.body)

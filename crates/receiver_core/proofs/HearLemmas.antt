@@ -1,5 +1,5 @@
 -- What a heard bucket is to a receiver: what is answered, and what the rule does.
-use Rattle.std.proofs.Common.{◌≡◌, ◌≢◌, ℕ, ◌+◌, arith, cond, max, true, false, ◌&&◌, ◌==◌, [], length, get_or, is_none, not, Option, Some, None, Ok, refl, sym, ◌∙◌, ap}
+use Rattle.std.proofs.Common.{◌≡◌, ◌≢◌, ℕ, ◌+◌, arith, cond, max, Bool, true, false, ◌&&◌, ◌==◌, [], length, get_or, is_none, not, Option, Some, None, Ok, refl, sym, ◌∙◌, ap}
 use Rattle.std.proofs.lemmas.Bool.{and_parts, cond-false, cond-true, eqb-true}
 use Rattle.air_model.specs.Aired.{Air, airs_columns, body_fits, fits, slots_at}
 use Rattle.air_model.proofs.AiredLemmas.{fit_parts}
@@ -128,25 +128,41 @@ pub quiet : (v : Receiver) (s : State) → s.lines ≡ [] → (let t : Receiver 
 unfolding last_reads
 quiet v s e = ap (λ L. let t : Receiver = record v { state = s; last = last_reads L v.last } in t) (sym e)
 
-module _ (v : Receiver) (b : Bucket) where
-  pub foreign_heard : v.state.lines ≡ [] → fits v.air b ≡ false →
-      (let t : Receiver = record v { state = count_foreign v.state } in t) ≡ in_state v (hear (by_entries v.air.scheme) v.air v.reader (Some b) v.state)
-  unfolding count_foreign
-  foreign_heard free f = quiet v (count_foreign v.state) free ∙ ap (in_state v) (hear_foreign v.air v.reader b v.state f)
+-- The receiver that came to a cycle.
+abbrev pub at_newest : ℕ → Receiver → Receiver
+at_newest c v = record v { state = at_cycle (max v.state.now c) v.state }
 
-  pub dozed_heard : (m : ℕ) → v.state.lines ≡ [] → m ≡ max v.state.now b.cycle → fits v.air b ≡ true → is_read_wanted (wanted v.reader v.state) (read_in b.cycle b.body) ≡ false →
-      (let t : Receiver = record v { state = count_dozed (at_cycle m v.state) } in t) ≡ in_state v (hear (by_entries v.air.scheme) v.air v.reader (Some b) v.state)
+pub foreign_heard : (v : Receiver) (b : Bucket) → v.state.lines ≡ [] → fits v.air b ≡ false →
+    (let t : Receiver = record v { state = count_foreign v.state } in t) ≡ in_state v (hear (by_entries v.air.scheme) v.air v.reader (Some b) v.state)
+unfolding count_foreign
+foreign_heard v b free f = quiet v (count_foreign v.state) free ∙ ap (in_state v) (hear_foreign v.air v.reader b v.state f)
+
+-- The receiver that fits the bucket came to its cycle.
+module _ (v now : Receiver) (b : Bucket) (came : now ≡ at_newest b.cycle v) (f : fits v.air b ≡ true) where
+  -- So it wants what it wanted, and what comes too late came too late before.
+  pub still_wanted : (t : Bool) → is_read_wanted (wanted now.reader now.state) (read_in b.cycle b.body) ≡ t → is_read_wanted (wanted v.reader v.state) (read_in b.cycle b.body) ≡ t
+  unfolding wanted query_of
+  still_wanted t w = sym (ap (λ (u : Receiver). is_read_wanted (wanted u.reader u.state) (read_in b.cycle b.body)) came) ∙ w
+
+  pub still_late : (t : Bool) → comes_late now.air now.state (read_from_bucket b) ≡ t → comes_late v.air v.state (read_from_bucket b) ≡ t
+  still_late t late = sym (ap (λ (u : Receiver). comes_late u.air u.state (read_from_bucket b)) came) ∙ late
+
+  pub dozed_heard : v.state.lines ≡ [] → is_read_wanted (wanted v.reader v.state) (read_in b.cycle b.body) ≡ false →
+      (let t : Receiver = record now { state = count_dozed now.state } in t) ≡ in_state v (hear (by_entries v.air.scheme) v.air v.reader (Some b) v.state)
   unfolding count_dozed
-  dozed_heard m free e f w = quiet v (count_dozed (at_cycle m v.state)) free ∙ ap (in_state v) (hear_dozed v.air v.reader b m v.state e f w)
+  dozed_heard free w =
+      ap (λ (u : Receiver). let t : Receiver = record u { state = count_dozed u.state } in t) came ∙ quiet v (count_dozed (at_newest b.cycle v).state) free
+      ∙ ap (in_state v) (hear_dozed v.air v.reader b (max v.state.now b.cycle) v.state refl f w)
 
-  pub late_heard : (m : ℕ) → v.state.lines ≡ [] → m ≡ max v.state.now b.cycle → fits v.air b ≡ true → is_read_wanted (wanted v.reader v.state) (read_in b.cycle b.body) ≡ true →
-      comes_late v.air v.state (read_from_bucket b) ≡ true →
-      (let t : Receiver = record v { state = count_late (at_cycle m v.state) } in t) ≡ in_state v (hear (by_entries v.air.scheme) v.air v.reader (Some b) v.state)
+  pub late_heard : v.state.lines ≡ [] → is_read_wanted (wanted v.reader v.state) (read_in b.cycle b.body) ≡ true → comes_late v.air v.state (read_from_bucket b) ≡ true →
+      (let t : Receiver = record now { state = count_late now.state } in t) ≡ in_state v (hear (by_entries v.air.scheme) v.air v.reader (Some b) v.state)
   unfolding count_late
-  late_heard m free e f w late = quiet v (count_late (at_cycle m v.state)) free
-      ∙ ap (in_state v) (sym (hear_wanted v.air v.reader b m v.state e f w ∙ cond-true (comes_late v.air v.state (read_from_bucket b)) _ _ late))
+  late_heard free w late =
+      ap (λ (u : Receiver). let t : Receiver = record u { state = count_late u.state } in t) came ∙ quiet v (count_late (at_newest b.cycle v).state) free
+      ∙ ap (in_state v) (sym (hear_wanted v.air v.reader b (max v.state.now b.cycle) v.state refl f w ∙ cond-true (comes_late v.air v.state (read_from_bucket b)) _ _ late))
 
-  pub opened_heard : (m : ℕ) → m ≡ max v.state.now b.cycle → fits v.air b ≡ true → is_read_wanted (wanted v.reader v.state) (read_in b.cycle b.body) ≡ true →
-      comes_late v.air v.state (read_from_bucket b) ≡ false →
-      in_state v (open_bucket (by_entries v.air.scheme) v.air v.reader (read_from_bucket b) (at_cycle m v.state)) ≡ in_state v (hear (by_entries v.air.scheme) v.air v.reader (Some b) v.state)
-  opened_heard m e f w late = ap (in_state v) (sym (hear_wanted v.air v.reader b m v.state e f w ∙ cond-false (comes_late v.air v.state (read_from_bucket b)) _ _ late))
+  pub opened_heard : is_read_wanted (wanted v.reader v.state) (read_in b.cycle b.body) ≡ true → comes_late v.air v.state (read_from_bucket b) ≡ false →
+      in_state now (open_bucket (by_entries now.air.scheme) now.air now.reader (read_from_bucket b) now.state) ≡ in_state v (hear (by_entries v.air.scheme) v.air v.reader (Some b) v.state)
+  opened_heard w late =
+      ap (λ (u : Receiver). in_state u (open_bucket (by_entries u.air.scheme) u.air u.reader (read_from_bucket b) u.state)) came
+      ∙ ap (in_state v) (sym (hear_wanted v.air v.reader b (max v.state.now b.cycle) v.state refl f w ∙ cond-false (comes_late v.air v.state (read_from_bucket b)) _ _ late))

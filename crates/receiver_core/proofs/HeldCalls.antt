@@ -1,10 +1,10 @@
 -- What each call of a receiver keeps of a history.
-use Rattle.std.proofs.Common.{◌≡◌, Option, List, length, nat_lt, sym, subst}
+use Rattle.std.proofs.Common.{◌≡◌, ℕ, Option, List, length, nat_lt, sym, subst}
 use Rattle.air_history.specs.declared.histories.Event.{Event}
 use Rattle.air_model.specs.Aired.{Air}
 use Rattle.air_model.specs.Buckets.{Bucket}
 use Rattle.air_model.specs.Judges.{by_entries}
-use Rattle.air_model.specs.SessionLaws.{QueriesFilled}
+use Rattle.air_model.specs.SessionLaws.{QueriesFilled, dozed_through}
 use Rattle.air_model.specs.Sessions.{Line, Reader, State, end_query, hear, query_of, wanted}
 use Rattle.air_model.proofs.MomentLemmas.{cond_keeps}
 use Rattle.receiver_core.specs.HeldTruths.{HearsTruly, HoldsTruly, StaysTrue}
@@ -44,4 +44,15 @@ pub ends : (before now : Receiver) (L : List Line) → (let t : State = record n
 ends before now L state air reader = record {
   keeps = λ H filled truly.
       moved before now H air reader (lined before.air H before.reader now.state L (subst (HoldsTruly before.air H before.reader) (sym state) (ends_truly before.air H before.reader filled before.state truly)));
+}
+
+-- Counts and the newest cycle are no part of what is held.
+dozed_truly : (air : Air) (H : List Event) (reader : Reader) (s : State) (n m : ℕ) → HoldsTruly air H reader s → HoldsTruly air H reader (dozed_through n m s)
+unfolding wanted query_of
+dozed_truly air H reader s n m h = record { held = h.held; copies = h.copies; allowed = h.allowed; accepted = h.accepted; at_hand = h.at_hand }
+
+pub dozes : (before now : Receiver) (n m : ℕ) → now.state ≡ dozed_through n m before.state → now.air ≡ before.air → now.reader ≡ before.reader → StaysTrue before now
+dozes before now n m state air reader = record {
+  keeps = λ H filled truly.
+      moved before now H air reader (subst (HoldsTruly before.air H before.reader) (sym state) (dozed_truly before.air H before.reader before.state n m truly));
 }

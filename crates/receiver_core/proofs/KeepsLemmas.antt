@@ -29,28 +29,29 @@ unfolding without_item
 whole_without n None R h = h
 whole_without n (Some clash) R h = All-filter _ (IsWholeRead n) R h
 
-pub offered : (air : Air) (reader : Reader) (before now : Cache) (clash : Option Clash) (x : Read) → IsCacheOf air reader before → IsWholeRead air.items x →
-    now ≡ record before { copies = keep before.room before.pix (with_copy x (without_clash clash before.copies)) } → IsCacheOf air reader now
+pub offered : (air : Air) (reader : Reader) (latest : ℕ) (before now : Cache) (clash : Option Clash) (x : Read) → IsCacheOf air reader latest before → IsWholeRead air.items x →
+    now ≡ record before { copies = keep before.room before.pix (with_copy x (without_clash clash before.copies)) } → IsCacheOf air reader latest now
 unfolding keep with_copy
-offered air reader before now clash x k whole e =
+offered air reader latest before now clash x k whole e =
     let R = without_clash clash before.copies in
     let rest = whole_without air.items clash before.copies k.copies in
-    subst (IsCacheOf air reader) (sym e) (record {
+    subst (IsCacheOf air reader latest) (sym e) (record {
       room = k.room;
       pix = k.pix;
       copies = All-filter _ (IsWholeRead air.items) _ (All-append (IsWholeRead air.items) _ (x ∷ _) (All-filter _ (IsWholeRead air.items) R rest)
           (All-cons (IsWholeRead air.items) x _ whole (All-filter _ (IsWholeRead air.items) R rest)));
     })
 
-pub dropped_one : (air : Air) (reader : Reader) (before now : Cache) (i : ℕ) → IsCacheOf air reader before → now ≡ record before { copies = without_item i before.copies } → IsCacheOf air reader now
+pub dropped_one : (air : Air) (reader : Reader) (latest : ℕ) (before now : Cache) (i : ℕ) → IsCacheOf air reader latest before → now ≡ record before { copies = without_item i before.copies } →
+    IsCacheOf air reader latest now
 unfolding without_item
-dropped_one air reader before now i k e = subst (IsCacheOf air reader) (sym e) (record { room = k.room; pix = k.pix; copies = All-filter _ (IsWholeRead air.items) before.copies k.copies })
+dropped_one air reader latest before now i k e = subst (IsCacheOf air reader latest) (sym e) (record { room = k.room; pix = k.pix; copies = All-filter _ (IsWholeRead air.items) before.copies k.copies })
 
 -- All were dropped.
 pub emptied : (r : Inside) (cache : Cache) → IsReceiver r → cache ≡ record r.copies { copies = [] } → IsReceiver (record r { copies = cache })
 emptied r cache k e = record {
   deck = k.deck;
-  cache = subst (IsCacheOf r.air r.reader) (sym e) (record { room = k.cache.room; pix = k.cache.pix; copies = All-nil (IsWholeRead r.air.items) });
+  cache = subst (IsCacheOf r.air r.reader r.latest) (sym e) (record { room = k.cache.room; pix = k.cache.pix; copies = All-nil (IsWholeRead r.air.items) });
   held = k.held;
   few = k.few;
   column = k.column;
@@ -105,7 +106,15 @@ item_within r i k w =
     let at = wanted_at r i w in
     let below : get_or q n i < r.air.items = k.deck.within r.query [] here n i (slice_get_within q n i at) in
     let same = get_or_from_slice_get q n i i at in
-    let all : length r.copies.pix ≡ r.air.items = ap length (k.cache.pix r.latest) ∙ k.deck.numbers r.latest in
+    let all : length r.copies.pix ≡ r.air.items = ap length k.cache.pix ∙ k.deck.numbers r.latest in
+    omega arith
+
+-- So it is one of the air's.
+pub wanted_within : (r : Inside) (o : Option ℕ) → IsReceiver r → o ≡ wanted (receiver_in r).reader (receiver_in r).state → IfSome o (λ i. i < r.air.items)
+wanted_within r None k e = tt
+wanted_within r (Some i) k e =
+    let below = item_within r i k (sym e) in
+    let all : length r.copies.pix ≡ r.air.items = ap length k.cache.pix ∙ k.deck.numbers r.latest in
     omega arith
 
 -- So has the item of a held read that clashes.
@@ -114,7 +123,7 @@ clash_within r x c k here e =
     let held : Contains (map (λ (y : Read). y.item) r.held.reads) c.item = (names r.air.scheme [] []).1 r.held.reads x c e in
     let first : All (λ i. i < r.air.items) (take (length r.held.reads) (at_hand r)) = All-take (λ i. i < r.air.items) (length r.held.reads) (at_hand r) (k.deck.within r.query [] here) in
     let below : c.item < r.air.items = All-contains (λ i. i < r.air.items) (take (length r.held.reads) (at_hand r)) c.item first (subst (λ is. Contains is c.item) k.held.first held) in
-    let all : length r.copies.pix ≡ r.air.items = ap length (k.cache.pix r.latest) ∙ k.deck.numbers r.latest in
+    let all : length r.copies.pix ≡ r.air.items = ap length k.cache.pix ∙ k.deck.numbers r.latest in
     omega arith
 
 pub clashes_within : (r : Inside) (x : Read) (o : Option Clash) → IsReceiver r → r.query < length r.reader.queries → (by_entries r.air.scheme).clash r.held.reads x ≡ o → IfSome o (λ c. c.item < length r.copies.pix)

@@ -1,6 +1,6 @@
 pub mod AttemptLemmas
 pub mod FitLemmas
-pub mod PixLemmas
+pub mod AirLemmas
 pub mod WordLemmas
 pub mod SettlingLemmas
 pub mod StateLemmas

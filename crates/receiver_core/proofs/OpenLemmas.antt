@@ -93,7 +93,7 @@ bucket_read b n range busy counted = record {
 -- The entries of a bucket that fits are as many as there are PIX numbers.
 pub column_sized : (r : Inside) (b : Bucket) (column : List ℕ) → IsReceiver r → kind_of b.body ≢ 0 → count_of b.body ≡ r.air.items → column ≡ entries_of b.body →
     length column ≡ length r.copies.pix
-column_sized r b column k busy counted e = ap length e ∙ entries_counted b.body busy ∙ counted ∙ sym (ap length (k.cache.pix 0) ∙ k.deck.numbers 0)
+column_sized r b column k busy counted e = ap length e ∙ entries_counted b.body busy ∙ counted ∙ sym (ap length k.cache.pix ∙ k.deck.numbers r.latest)
 
 -- A whole read of the wanted item is new to the held ones.
 pub new_read : (r : Inside) (x : Read) → IsReceiver r → IsWholeRead r.air.items x → wanted (receiver_in r).reader (receiver_in r).state ≡ Some x.item → IsNew (columns_of r.held) (heard_of x)
@@ -133,7 +133,7 @@ opened_with r held cache = record r { counts = record r.counts { opened = r.coun
 
 -- The copies that stay of some and the new one, by the reader's room and the numbers of the air.
 kept_at : (r : Inside) (R : List Read) (x : Read) → IsReceiver r → keep r.copies.room r.copies.pix (with_copy x R) ≡ keep r.reader.plan.room (pix_at r.air r.latest) (with_copy x R)
-kept_at r R x k = ap (λ n. keep n r.copies.pix (with_copy x R)) k.cache.room ∙ ap (λ p. keep r.reader.plan.room p (with_copy x R)) (k.cache.pix r.latest)
+kept_at r R x k = ap (λ n. keep n r.copies.pix (with_copy x R)) k.cache.room ∙ ap (λ p. keep r.reader.plan.room p (with_copy x R)) k.cache.pix
 
 -- The cache once the read is offered, without the copy of the item that clashes.
 abbrev pub offered_to : Inside → Read → Option Clash → Cache

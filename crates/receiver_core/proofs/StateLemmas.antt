@@ -11,6 +11,8 @@ use Rattle.air_base.specs.declared.verdicts.VerdictKind.TheVariants.{Accept}
 use Rattle.air_model.specs.Aired.{Air}
 use Rattle.air_model.specs.Judges.{Judge, by_entries}
 use Rattle.air_model.specs.Sessions.{Reader, State, accept_if_whole, copy_of, line_of, next_attempt, next_query, query_of, wanted, with_line}
+use Rattle.air_model.specs.SessionLaws.{dozed_through}
+use Rattle.air_model.proofs.DozeLemmas.{still_free}
 use Rattle.air_model.proofs.MomentLemmas.{cond_keeps, none_from}
 use Rattle.receiver_core.specs.Private.Attempts.{line_read}
 use Rattle.receiver_core.specs.LastReads.{in_state, last_reads}
@@ -58,6 +60,11 @@ left reader s i w = elim (cases_lt s.query (length reader.queries)) as (λ _. s.
   | inl l ↦ l
   | inr ge ↦ absurd (let f : ◌≡◌ {A = Option ℕ} None (Some i) = sym (ap (λ q. slice_get q (length s.held)) (get_or_past reader.queries s.query [] ge)) ∙ w in cc)
 ]
+
+-- Dozing leaves a receiver settled.
+pub dozed_settled : (r : Receiver) (n m : ℕ) → IsSettled r → IsSettled (record r { state = dozed_through n m r.state })
+unfolding wanted query_of
+dozed_settled r n m s = record { given = s.given; free = still_free (wanted r.reader r.state) n m r.state s.free }
 
 -- ---- at the fields
 

@@ -44,10 +44,10 @@ pub record IsWholeRead (items : ℕ) (x : Read) : Type 0 where
   pub sized : length x.entries ≡ items
   pub below : All (λ entry. entry < x.cycle) x.entries
 
--- The cache has the reader's room and the PIX numbers of the air, which are the same in all cycles.
-pub record IsCacheOf (air : Air) (reader : Reader) (cache : Cache) : Type 0 where
+-- The cache has the reader's room and the PIX numbers of the air in the newest heard cycle.
+pub record IsCacheOf (air : Air) (reader : Reader) (now : ℕ) (cache : Cache) : Type 0 where
   pub room : cache.room ≡ reader.plan.room
-  pub pix : (c : ℕ) → cache.pix ≡ pix_at air c
+  pub pix : cache.pix ≡ pix_at air now
   pub copies : All (IsWholeRead air.items) cache.copies
 
 -- The held reads are checked by the deck's policy, are over the deck's items, and are those of the first items of the query.
@@ -64,7 +64,7 @@ pub record CopiesFew (query attempt held copied : ℕ) : Type 0 where
 -- A receiver is of its deck, keeps the copies of a cache, holds reads, and has room for the entries of a bucket.
 pub record IsReceiver (r : Inside) : Type 0 where
   pub deck : AreOfDeck r.air r.reader
-  pub cache : IsCacheOf r.air r.reader r.copies
+  pub cache : IsCacheOf r.air r.reader r.latest r.copies
   pub held : HoldsFirst r.air r.reader r.query r.held.policy r.held.items r.held.reads
   pub few : CopiesFew r.query r.attempt (length r.held.reads) r.counts.copied
   pub column : length r.column.items ≡ r.air.items

@@ -1,31 +1,25 @@
-//! What all receivers of a deck know: the policy, the version, the number of items, the item of each slot, and the PIX numbers.
-//!
-//! A deck is plain so far: all its cycles have one program.
+//! What all receivers of a deck know: the policy, the version, the number of items, and the plans, which all of them share.
 
-ghost use Rattle.std.specs.Prelude.{◌≡◌, ◌<◌, ◌≤◌, ℕ, length, map, IfOk};
-ghost use Rattle.std.specs.List.{enumerate_from};
+ghost use Rattle.std.specs.Prelude.{◌≡◌, ◌<◌, ◌≤◌, ℕ, length, IfOk};
 ghost use Rattle.air_base.specs.declared.limits.TheConstants.{MOST_ITEMS};
 ghost use Rattle.air_model.specs.Buckets.{item_of, kind_of};
-ghost use Rattle.air_model.specs.Aired.{air_of, airs_columns, fits, pix_at};
-ghost use Rattle.air_model.specs.Airings.{carries, pix_number};
-ghost use Rattle.air_model.specs.Decks.{disks_in, rates_in};
-ghost use Rattle.air_model.specs.Programs;
+ghost use Rattle.air_model.specs.Aired.{air_of, airs_columns, edition_at, fits, pix_at};
+ghost use Rattle.air_model.specs.Airings.{carries};
 ghost use Rattle.receiver_core.specs.Private.SlotKinds.{kind_fits};
 
 use air_base::{NoMemory, Policy};
 use bucket_codec::{BucketView, ViewKind};
-use chunk_program::{PlannedRef, Program};
-use std::alloc::Global;
+use chunk_program::{PlannedRef, Plans};
 use std::marker::Model;
 
-/// The policy, the version of the buckets, the number of items, the item of each slot, and each item's PIX number.
+/// The policy, the version of the buckets, the number of items, and the plans: which item each slot of a cycle carries, and which PIX
+/// number each item has in it.
 #[derive(Drop)]
 pub struct Air {
     policy: Policy,
     version: u8,
     items: u16,
-    slots: Vec<Option<u16>>,
-    pix: Vec<u64>,
+    plans: Plans,
 }
 
 impl Model for Air {
@@ -39,8 +33,8 @@ impl Model for Air {
 }
 
 impl Air {
-    /// What the receivers of a deck know.
-    pub fn new(alloc: Global, planned: &PlannedRef<'_>) -> Result<Air, NoMemory>
+    /// What the receivers of a deck know. The plans are shared and not copied.
+    pub fn new(planned: &PlannedRef<'_>) -> Result<Air, NoMemory>
         ensures told { IfOk result (λ a. a ≡ air_of planned.now) }
         ensures numbers { IfOk result (λ a. (c : ℕ) → length (pix_at a c) ≡ a.items) }
         ensures few { IfOk result (λ a. a.items ≤ MOST_ITEMS) }
@@ -51,8 +45,7 @@ impl Air {
             policy: settings.policy,
             version: settings.version,
             items: deck.items(),
-            slots: slots(alloc, planned.program())?,
-            pix: pix_numbers(alloc, planned)?,
+            plans: planned.plans().share()?,
         })
     }
 
@@ -77,22 +70,34 @@ impl Air {
         self.items
     }
 
-    /// The PIX number of each item.
-    pub fn pix(&self) -> &[u64]
-        ensures { (c : ℕ) → result.now ≡ pix_at self.now c }
+    /// The edition of a cycle.
+    pub fn edition_at(&self, cycle: u32) -> u32
+        ensures { result ≡ edition_at self.now cycle }
     {
-        self.pix.as_slice()
+        self.plans.edition_at(cycle)
     }
 
-    /// Whether the bucket fits the deck.
+    /// The PIX number of each item in a cycle.
+    pub fn pix(&self, cycle: u32) -> &[u64]
+        ensures { result.now ≡ pix_at self.now cycle }
+    {
+        self.plans.pix(self.plans.edition_at(cycle))
+    }
+
+    /// Whether the bucket fits the deck, by the program in force in its own cycle.
     pub fn fits(&self, bucket: &BucketView<'_>) -> bool
         ensures { result ≡ fits self.now bucket.now }
     {
-        let slot = bucket.slot() as usize;
-        if bucket.version() > self.version || bucket.edition() != 0 || slot >= self.slots.len() {
+        let edition = self.plans.edition_at(bucket.cycle());
+        if bucket.version() > self.version || u32::from(bucket.edition()) != edition {
             return false;
         }
-        stands_right(self.policy, self.slots[slot], bucket) && bucket.count() == self.items
+        let program = self.plans.program(edition);
+        let slot = u32::from(bucket.slot());
+        if slot >= program.slots() {
+            return false;
+        }
+        stands_right(self.policy, program.slot_item(slot), bucket) && bucket.count() == self.items
     }
 }
 
@@ -126,28 +131,4 @@ fn stands_right(policy: Policy, slot: Option<u16>, bucket: &BucketView<'_>) -> b
         ViewKind::Column => carries(slot, bucket.item()) && airs_columns(policy),
         ViewKind::Vector => carries(slot, bucket.item()) && !airs_columns(policy),
     }
-}
-
-/// The item of each slot of the program.
-fn slots(alloc: Global, program: &Program) -> Result<Vec<Option<u16>>, NoMemory>
-    ensures { IfOk result (λ slots. slots.items ≡ Programs.program program.now) }
-{
-    let mut slots = Vec::new(alloc);
-    for slot in 0..program.slots() {
-        slots.push(program.slot_item(slot))?;
-    }
-    Ok(slots)
-}
-
-/// The PIX number of each item.
-fn pix_numbers(alloc: Global, planned: &PlannedRef<'_>) -> Result<Vec<u64>, NoMemory>
-    ensures { IfOk result (λ pix. pix.items ≡ map (λ p. pix_number (disks_in planned.now 0) p.0 p.1) (enumerate_from 0 (rates_in planned.now))) }
-{
-    let deck = planned.deck();
-    let program = planned.program();
-    let mut numbers = Vec::new(alloc);
-    for item in 0..deck.items() {
-        numbers.push(program.pix(item, deck.rate(item)))?;
-    }
-    Ok(numbers)
 }

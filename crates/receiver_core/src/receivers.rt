@@ -2,12 +2,14 @@
 //!
 //! `rules` has what a heard bucket does, `settling` what the kept copies do.
 
-ghost use Rattle.std.specs.Prelude.{◌≡◌, ◌↔◌, ◌<◌, ◌≤◌, ◌+◌, ◌^◌, [], length, Err, IfOk, IsNone, IsTrue};
+ghost use Rattle.std.specs.Prelude.{◌≡◌, ◌↔◌, ◌<◌, ◌≤◌, ◌+◌, ◌^◌, List, [], All, length, max, Err, IfOk, IfSome, IsNone, IsTrue};
 ghost use Rattle.std.specs.Result.{result_ok};
-ghost use Rattle.air_model.specs.Buckets.{IsInRange, bucket_in, reading};
-ghost use Rattle.air_model.specs.Decks.{disks_in};
+ghost use Rattle.air_model.specs.Aired.{fits};
+ghost use Rattle.air_model.specs.Buckets.{Bucket, IsInRange, bucket_in, reading};
 ghost use Rattle.air_model.specs.Judges.{by_entries};
+ghost use Rattle.air_model.specs.SessionLaws.{IsUnwanted, dozed_through, hear_each, newest_of};
 ghost use Rattle.air_model.specs.Sessions.{end_query, hear, wanted};
+ghost use Rattle.chunk_program.specs.Editions.{plans_in};
 ghost use Rattle.receiver_core.specs.LinesGiven.{StepTells, lines_given, lines_of};
 ghost use Rattle.receiver_core.specs.FeedAnswers.{ChangesItsCountAlone, count_fed, fed_of};
 ghost use Rattle.receiver_core.specs.HeldTruths.{HearsTruly, StaysTrue, first_unheld};
@@ -25,7 +27,7 @@ use crate::receivers::settling::drop_all;
 use air_base::{Counts, NoMemory, ReadOf, Verdict, VerdictKind};
 use air_model::bucket::BucketFault;
 use bucket_codec::{BucketView, decode};
-use chunk_program::{PlannedRef, Program};
+use chunk_program::{PlannedRef, Plans};
 use item_catalog::Deck;
 use pix_cache::PixCache;
 use std::alloc::Global;
@@ -86,21 +88,16 @@ impl Model for Receiver {
 }
 
 impl Receiver {
-    /// The deck's receiver of a number, at its start. It takes all memory. `Program::plan` makes the deck's program.
-    pub fn new(
-        alloc: Global,
-        deck: &Deck,
-        number: u32,
-        program: &Program,
-    ) -> Result<Receiver, NoMemory>
+    /// The deck's receiver of a number, at its start. It takes all memory, and shares the plans. `Plans::plan` makes the deck's plans.
+    pub fn new(alloc: Global, deck: &Deck, number: u32, plans: &Plans) -> Result<Receiver, NoMemory>
         requires number { number < length deck.now.readers }
-        requires program { program.now ≡ disks_in deck.now 0 }
+        requires plans { plans.now ≡ plans_in deck.now }
         ensures { IfOk result (λ r. r ≡ receiver_of deck.now number) }
     {
-        let air = Air::new(alloc, &PlannedRef::of(deck, program))?;
+        let air = Air::new(&PlannedRef::of(deck, plans))?;
         let reader = Reader::new(alloc, deck, number)?;
         let held = Attempt::new(alloc, air.policy(), air.items())?;
-        let copies = PixCache::new(alloc, reader.room(), air.pix())?;
+        let copies = PixCache::new(alloc, reader.room(), air.pix(0))?;
         let column = vec![in alloc; 0; air.items() as usize]?;
         let counts = Counts {
             opened: 0,
@@ -178,6 +175,24 @@ impl Receiver {
         }
     }
 
+    /// Hears so many buckets of which none is wanted, the newest of this cycle: they are counted, and none need be at hand.
+    pub fn doze(&mut self, buckets: u64, cycle: u32)
+        requires settled { IsSettled self.old }
+        requires counts { heard_count self.old.state.counts + buckets < 2 ^ 64 }
+        ensures state { (heard : List Bucket) → All (IsUnwanted self.old.air self.old.reader self.old.state) heard →
+            length heard ≡ buckets → newest_of self.old.state.now heard ≡ max self.old.state.now cycle →
+            self.new.state ≡ hear_each (by_entries self.old.air.scheme) self.old.air self.old.reader heard self.old.state }
+        ensures counted { self.new.state ≡ dozed_through buckets (max self.old.state.now cycle) self.old.state }
+        ensures settled { IsSettled self.new }
+        ensures air { self.new.air ≡ self.old.air }
+        ensures reader { self.new.reader ≡ self.old.reader }
+        ensures last { self.new.last ≡ self.old.last }
+        ensures held { StaysTrue self.old self.new }
+    {
+        self.come_to(cycle);
+        self.counts.dozed += buckets;
+    }
+
     /// Hands out the verdict that waits, or goes on up to the next one.
     pub fn step(&mut self) -> Step
         ensures state { record self.new.state { lines = lines_given result self.new.last } ≡ state_after_step self.old }
@@ -232,8 +247,16 @@ impl Receiver {
     pub fn wanted(&self) -> Option<u16>
         ensures told { result ≡ wanted self.now.reader self.now.state }
         ensures first { result ≡ first_unheld self.now.reader self.now.state }
+        ensures within { IfSome result (λ i. i < self.now.air.items) }
     {
         self.reader.item(self.query, self.held.len())
+    }
+
+    /// Whether a bucket fits the deck.
+    pub fn fits(&self, bucket: &BucketView<'_>) -> bool
+        ensures { result ≡ fits self.now.air bucket.now }
+    {
+        self.air.fits(bucket)
     }
 
     /// The counts of what was heard.

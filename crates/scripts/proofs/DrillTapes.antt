@@ -1,5 +1,5 @@
 -- How long the tape of a drill is: it has at most 2,002 cycles, of at most 432 slots, of at most 892 bytes each.
-use Rattle.std.proofs.Common.{◌≡◌, ℕ, ◌+◌, ◌*◌, ◌≤◌, Option, Some, None, List, [], length, All, get_or, refl, ap, ◌∙◌, arith}
+use Rattle.std.proofs.Common.{◌≡◌, ℕ, ◌+◌, ◌*◌, ◌≤◌, Option, Some, None, List, [], length, All, get_or, refl, sym, subst, ap, ◌∙◌, arith}
 use Rattle.std.specs.List.{range_with_len}
 use Rattle.std.proofs.lemmas.List.{length-map}
 use Rattle.std.proofs.lemmas.List.Concat.{length-flat_map}
@@ -11,7 +11,7 @@ use Rattle.air_history.specs.Histories.{starts}
 use Rattle.air_history.proofs.ScanLemmas.{starts_within}
 use Rattle.air_model.specs.Aired.{Air, air_of, bucket_of, buckets_of, cycle_buckets, slots_at}
 use Rattle.air_model.specs.Buckets.{spelling}
-use Rattle.air_model.specs.Decks.{disks_in, script_history, values_in}
+use Rattle.air_model.specs.Decks.{count_editions, disks_in, script_history, values_in}
 use Rattle.air_model.specs.Draws.{generator}
 use Rattle.air_model.specs.Drills.{draw_item, drill_deck, drill_items}
 use Rattle.air_model.specs.Outputs.{script_tape}
@@ -19,6 +19,7 @@ use Rattle.air_model.specs.Programs.{program}
 use Rattle.air_model.proofs.EditionLemmas.{plain_slots}
 use Rattle.air_sender.specs.TapeSizes.{cycle_size, record_size}
 use Rattle.air_sender.proofs.TapeLengths.{plain_size}
+use Rattle.chunk_program.specs.Plans.{AreShort}
 use Rattle.item_catalog.proofs.DealLemmas.{script_short}
 use Rattle.item_catalog.proofs.DrawLemmas.{length-draw_each}
 use Rattle.air_sender.specs.AiredBytes.{aired_bytes}
@@ -47,6 +48,15 @@ drill_version seed size = refl
 no_replans : (seed size : ℕ) → (drill_deck seed size).replans ≡ []
 unfolding drill_deck
 no_replans seed size = refl
+
+-- So none of its editions is too long.
+pub drill_short : (seed size : ℕ) → 1 ≤ size → size ≤ 100 → AreShort (drill_deck seed size)
+drill_short seed size some few e below =
+    let deck = drill_deck seed size in
+    let one : count_editions deck ≡ 1 = ap (λ rs. length rs + 1) (no_replans seed size) in
+    let first : e ≡ 0 = omega (arith, one, below) in
+    let slots = drill_slots seed size some in
+    subst (λ e. length (program (disks_in deck e)) ≤ 16384) (sym first) (omega (arith, slots))
 
 -- It has the items of its size.
 drill_length : (seed size : ℕ) → length ((drill_deck seed size).items) ≡ drill_items size

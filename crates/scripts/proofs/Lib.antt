@@ -1,5 +1,6 @@
 pub mod PartLemmas
 pub mod PieceLemmas
+pub mod CycleLemmas
 mod TapePieceLemmas
 mod SinkLemmas
 mod DrillSlots
@@ -8,3 +9,4 @@ mod CountBounds
 mod DrillCounts
 mod DrillExamples
 mod NumberExamples
+mod LongestExamples

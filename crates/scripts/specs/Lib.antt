@@ -1,5 +1,6 @@
 pub mod PieceRuns
 pub mod Private
+pub mod LongestCycles
 pub mod Pieces
 pub mod Sinks
 pub mod DrillLines

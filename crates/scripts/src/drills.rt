@@ -1,10 +1,8 @@
 //! A drill: the script of a deck that is made from a seed and a size, and what it came to in one line.
 
-ghost use Rattle.std.specs.Prelude.{◌≡◌, ◌≤◌, IfOk, length};
-ghost use Rattle.air_base.specs.declared.limits.TheConstants.{MOST_SLOTS};
-ghost use Rattle.air_model.specs.Decks.{disks_in};
+ghost use Rattle.std.specs.Prelude.{◌≡◌, ◌≤◌, IfOk};
 ghost use Rattle.air_model.specs.Outputs.{script_tape};
-ghost use Rattle.air_model.specs.Programs.{program};
+ghost use Rattle.chunk_program.specs.Plans.{AreShort};
 ghost use Rattle.scripts.specs.DrillLines.{drill_line, drill_numbers, drill_output};
 ghost use Rattle.scripts.specs.DrillSums.{SumsFit};
 ghost use Rattle.item_catalog.specs.declared.deck.drill.TheConstants.{MOST_DRILL_SIZE};
@@ -21,7 +19,7 @@ use crate::whole_scripts::{AiredScript, air_script};
 use air_base::NoMemory;
 use air_report::{finish, put_numbers, row_writer};
 use air_sender::tape_len;
-use chunk_program::{Planned, cut};
+use chunk_program::Planned;
 use item_catalog::{Deck, drill_deck};
 use std::alloc::Global;
 use std::thread::Threads;
@@ -47,13 +45,12 @@ pub fn run_drill<T: Threads + Sync>(
     Ok(text)
 }
 
-/// A deck whose program is short enough, with its program: so nothing but memory is wanting where it fails.
+/// A deck whose programs are short enough, with its plans: so it fails only where memory runs out.
 fn plan_short(alloc: Global, deck: Deck) -> Result<Planned, NoMemory>
-    requires { length (program (disks_in deck 0)) ≤ MOST_SLOTS }
+    requires { AreShort deck }
     ensures { IfOk result (λ p. p ≡ deck) }
 {
-    let cut = cut(alloc, &deck)?;
-    match Planned::new(alloc, deck, &cut) {
+    match Planned::new(alloc, deck) {
         Ok(planned) => Ok(planned),
         Err(_) => Err(NoMemory),
     }
@@ -71,7 +68,7 @@ fn numbers_of(planned: &Planned, aired: &AiredScript) -> [u64; 11]
         u64::from(planned.deck().items()),
         count_commits(&aired.events),
         count_starts(&aired.events),
-        u64::from(planned.program().slots()),
+        u64::from(planned.program(0).slots()),
         tape_len(planned),
         count_accepted(verdicts),
         count_aborted(verdicts),

@@ -112,7 +112,7 @@ impl PieceRun {
         Ok(started)
     }
 
-    /// Airs the cycle that an event starts, from the board that the event leaves; a commit starts none.
+    /// Airs the cycle that an event starts, from the board that the event leaves, with the program in force in it; a commit starts none.
     fn air(
         &mut self,
         planned: &Planned,
@@ -134,8 +134,9 @@ impl PieceRun {
         own_cycle_law();
         below_law();
         planned.shows_planned();
+        let program = planned.plans().in_force(self.board.cycle());
         match air_cycle(
-            planned.program(),
+            program,
             &self.board,
             own_form(planned),
             piece,

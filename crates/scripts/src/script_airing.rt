@@ -3,17 +3,17 @@
 ghost use Rattle.std.specs.Prelude.{◌≡◌, ◌↔◌, ◌<◌, ◌≤◌, ◌+◌, ◌*◌, ◌++◌, [], false, IfOk, IsTrue, OnOk, length};
 ghost use Rattle.air_base.specs.declared.limits.TheConstants.{MOST_TAPE_BYTES};
 ghost use Rattle.air_history.specs.Histories.{starts};
-ghost use Rattle.air_model.specs.Decks.{disks_in, script_history};
+ghost use Rattle.air_model.specs.Decks.{script_history};
 ghost use Rattle.air_model.specs.Outputs.{script_tape, true_sessions};
-ghost use Rattle.air_model.specs.Programs.{program as slots_of};
 ghost use Rattle.air_model.specs.Reports.{counts_lines, verdict_lines};
-ghost use Rattle.air_sender.specs.TapeSizes.{cycle_size};
 ghost use Rattle.scripts.specs.Pieces.{IsAiring, piece_in, tape_so_far};
+ghost use Rattle.scripts.specs.LongestCycles.{longest_cycle};
 
 use crate::piece_runs::PieceRun;
+use crate::sizes::longest_cycle;
 use air_base::NoMemory;
 use air_history::Event;
-use air_sender::{TapeMast, own_form, tape_bytes};
+use air_sender::TapeMast;
 use chunk_program::Planned;
 use listeners::{Hearers, Sessions};
 use std::alloc::Global;
@@ -29,21 +29,20 @@ pub struct ScriptAiring {
 }
 
 impl ScriptAiring {
-    /// Nothing was aired yet; a piece is to have so many cycles, and the mast has room for the tape of these.
+    /// Nothing was aired yet; a piece is to have so many cycles, and the mast has room for the tape of as many of the longest edition.
     pub fn new(alloc: Global, planned: &Planned, cycles: u32) -> Result<ScriptAiring, NoMemory>
         requires { 1 ≤ cycles }
         ensures kept { IfOk result (IsAiring planned.now) }
         ensures empty { IfOk result (λ a. a.run.events.items ≡ []) }
         ensures nothing { IfOk result (λ a. tape_so_far planned.now a ≡ []) }
         ensures size { IfOk result (λ a. a.cycles ≡ cycles) }
-        ensures room { IfOk result (λ a. a.mast.tape.room ≡ cycles * cycle_size planned.now.settings.version (length planned.now.items) (slots_of (disks_in planned.now 0))) }
+        ensures room { IfOk result (λ a. a.mast.tape.room ≡ cycles * longest_cycle planned.now) }
     {
-        let items = planned.deck().items();
-        let form = own_form(planned);
+        let bytes = u64::from(cycles) * longest_cycle(planned);
         Ok(ScriptAiring {
             run: PieceRun::new(alloc, planned)?,
             hearers: Hearers::new(alloc, planned)?,
-            mast: TapeMast::new(alloc, tape_bytes(planned.program(), items, cycles, form))?,
+            mast: TapeMast::new(alloc, bytes)?,
             cycles,
         })
     }

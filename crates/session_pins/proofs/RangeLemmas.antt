@@ -4,6 +4,7 @@ use Rattle.std.specs.Prelude.{IfOk}
 use Rattle.std.proofs.lemmas.Bool.{false≢true}
 use Rattle.air_model.specs.declared.bucket.BucketFault.{BucketFault}
 use Rattle.air_model.specs.Buckets.{Bucket, Column, IsInRange, Vector, count_of, entries_of, item_of, kind_of, value_of}
+use Rattle.session_pins.specs.EditionReceivers.{changed_bucket}
 use Rattle.session_pins.specs.SmallBuckets.{bucket}
 
 -- What is said of a bucket is said of the answer that has it.
@@ -61,6 +62,22 @@ clash_range answer is = of_answer (bucket 2 1 (Column 1 25 (1 ∷ 1 ∷ []))) an
 pub first_range : (answer : Result Bucket BucketFault) → answer ≡ Ok (bucket 1 0 (Column 0 10 (0 ∷ 0 ∷ []))) → IfOk answer IsInRange
 unfolding count_of entries_of item_of kind_of value_of
 first_range answer is = of_answer (bucket 1 0 (Column 0 10 (0 ∷ 0 ∷ []))) answer is (record {
+  version = inl refl;
+  edition = omega arith;
+  some = omega arith;
+  count = omega arith;
+  started = omega arith;
+  cycle = omega arith;
+  slot = omega arith;
+  placed = inr (omega arith);
+  value = omega arith;
+  entries = search rules;
+  told = λ ages. absurd (false≢true ages);
+})
+
+pub changed_range : (answer : Result Bucket BucketFault) → answer ≡ Ok changed_bucket → IfOk answer IsInRange
+unfolding count_of entries_of item_of kind_of value_of
+changed_range answer is = of_answer changed_bucket answer is (record {
   version = inl refl;
   edition = omega arith;
   some = omega arith;

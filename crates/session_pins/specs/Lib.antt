@@ -3,4 +3,5 @@ pub mod SmallBuckets
 pub mod SmallReceivers
 pub mod SmallListeners
 pub mod AgedReceivers
+pub mod EditionReceivers
 pub mod Refusals

@@ -1,12 +1,13 @@
 //! Pins of `receiver_core`: what one heard bucket does to a receiver of two items.
 #![tactic(auto, unfolding(air_history::specs::Clashes::least, air_history::specs::Clashes::is_late, air_history::specs::Clashes::clash_by_entries, air_model::specs::Copies::keep, air_model::specs::Copies::without_item, air_model::specs::Copies::with_copy, air_model::specs::Aired::body_fits, air_model::specs::Aired::fits, air_model::specs::Judges::by_entries, air_model::specs::Sessions::query_of, air_model::specs::Sessions::wanted, air_model::specs::Sessions::line_of, air_model::specs::Sessions::with_line, air_model::specs::Sessions::count_opened, air_model::specs::Sessions::count_dozed, air_model::specs::Sessions::count_late, air_model::specs::Sessions::count_refused, air_model::specs::Sessions::count_foreign, air_model::specs::Sessions::next_query, air_model::specs::Sessions::next_attempt, air_model::specs::Sessions::accept_if_whole, air_model::specs::Sessions::hold, air_model::specs::Sessions::abort, air_model::specs::Sessions::drop_copy, air_model::specs::Sessions::copy_of, air_model::specs::Sessions::decide, air_model::specs::Sessions::offer, air_model::specs::Sessions::open_bucket, air_model::specs::Sessions::end_aged, air_model::specs::Sessions::judge_read, air_model::specs::Sessions::hear_read, air_model::specs::Sessions::hear, receiver_core::specs::FeedAnswers::fed_read, receiver_core::specs::FeedAnswers::fed_of, receiver_core::specs::LastReads::last_reads))]
 
-ghost use Rattle.std.specs.Prelude.{◌≡◌, [], ◌∷◌, Err, IfOk, Ok, Some};
+ghost use Rattle.std.specs.Prelude.{◌≡◌, false, true, [], ◌∷◌, Err, IfOk, Ok, Some};
 ghost use Rattle.air_base.specs.declared.verdicts.Policy.TheVariants.{FMatrix, RMatrix};
 ghost use Rattle.air_base.specs.declared.verdicts.VerdictKind.TheVariants.{Abort};
 ghost use Rattle.air_model.specs.Buckets.{Column, Vector};
-ghost use Rattle.air_model.specs.Decks.{disks_in};
 ghost use Rattle.air_model.specs.Sessions.{start};
+ghost use Rattle.chunk_program.specs.Editions.{plans_in};
+ghost use Rattle.session_pins.specs.EditionReceivers.{accepted_by_one, asking, changed_bucket, keeping_one};
 ghost use Rattle.session_pins.specs.SmallBuckets.{bucket};
 ghost use Rattle.session_pins.specs.SmallDecks.{tiered};
 ghost use Rattle.session_pins.specs.SmallReceivers.{air_by, asker_in, counts, heard as heard_read, holding, session_line, value_read};
@@ -14,7 +15,7 @@ ghost use Rattle.session_pins.specs.SmallReceivers.{air_by, asker_in, counts, he
 use air_base::NoMemory;
 use air_model::bucket::BucketFault;
 use bucket_codec::BucketView;
-use chunk_program::Program;
+use chunk_program::Plans;
 use item_catalog::Deck;
 use receiver_core::{Fed, Receiver};
 use std::alloc::Global;
@@ -84,11 +85,52 @@ pub fn offer_left_out_after_an_abort(
 }
 
 /// An item's PIX number is its rate times the number of its disk's chunks: for item 0 twice two, and for item 1 three times one.
-pub fn cache_by_rate(alloc: Global, deck: &Deck, program: &Program) -> Result<Receiver, NoMemory>
+pub fn cache_by_rate(alloc: Global, deck: &Deck, plans: &Plans) -> Result<Receiver, NoMemory>
     requires deck { deck.now ≡ tiered }
-    requires planned { program.now ≡ disks_in deck.now 0 }
+    requires planned { plans.now ≡ plans_in deck.now }
     ensures { IfOk result (λ r. r.air.pix ≡ (4 ∷ 3 ∷ []) ∷ []) }
 {
-    let receiver = Receiver::new(alloc, deck, 0, program)?;
+    let receiver = Receiver::new(alloc, deck, 0, plans)?;
     Ok(receiver)
+}
+
+/// Where the program changes over, the copies are put in the new order before the read is offered: item 1 is worth more from then on.
+pub fn old_order_kept(receiver: &mut Receiver, heard: &Result<BucketView<'_>, BucketFault>) -> Fed
+    requires receiver { receiver.old ≡ asking 1 (keeping_one 1 (heard_read 0 1 10 (0 ∷ 0 ∷ []))) }
+    requires heard { heard.now ≡ Ok changed_bucket }
+    ensures fed { result ≡ Fed.Opened }
+    ensures state { receiver.new.state ≡ accepted_by_one 2 (heard_read 1 2 20 (0 ∷ 0 ∷ [])) (value_read 1 2 20) }
+{
+    receiver.hear(heard)
+}
+
+/// An older bucket's read too is offered by the order of the newest heard cycle, in which the kept copy is worth more.
+pub fn order_by_own_cycle(
+    receiver: &mut Receiver,
+    heard: &Result<BucketView<'_>, BucketFault>,
+) -> Fed
+    requires receiver { receiver.old ≡ asking 0 (keeping_one 2 (heard_read 1 2 20 (0 ∷ 0 ∷ []))) }
+    requires heard { heard.now ≡ Ok (bucket 1 0 (Column 0 10 (0 ∷ 0 ∷ []))) }
+    ensures fed { result ≡ Fed.Opened }
+    ensures state { receiver.new.state ≡ accepted_by_one 2 (heard_read 1 2 20 (0 ∷ 0 ∷ [])) (value_read 0 1 10) }
+{
+    receiver.hear(heard)
+}
+
+/// A bucket is judged by the edition of its own cycle, also where the program has changed over since (judged by the newest edition).
+pub fn old_bucket_foreign(receiver: &Receiver, heard: &BucketView<'_>) -> bool
+    requires receiver { receiver.now ≡ asking 0 (keeping_one 2 (heard_read 1 2 20 (0 ∷ 0 ∷ []))) }
+    requires heard { heard.now ≡ bucket 1 0 (Column 0 10 (0 ∷ 0 ∷ [])) }
+    ensures { result ≡ true }
+{
+    receiver.fits(heard)
+}
+
+/// A bucket in the newest edition fits in no cycle before it.
+pub fn newest_edition_in_any_cycle(receiver: &Receiver, heard: &BucketView<'_>) -> bool
+    requires receiver { receiver.now ≡ asking 0 (keeping_one 2 (heard_read 1 2 20 (0 ∷ 0 ∷ []))) }
+    requires heard { heard.now ≡ record changed_bucket { cycle = 1 } }
+    ensures { result ≡ false }
+{
+    receiver.fits(heard)
 }

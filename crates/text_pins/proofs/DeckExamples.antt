@@ -1,6 +1,7 @@
 -- The smallest deck, what is no query, and what is said of a reader or an item that a deck doesn't have.
 use Rattle.std.proofs.Common.{◌≡◌, ◌<◌, ◌≤◌, ◌^◌, false, true, [], ◌∷◌, All, refl, inl, sum_by, arith}
 use Rattle.std.proofs.lemmas.List.Elements.{All-nil, All-from_recursion}
+use Rattle.air_base.specs.declared.limits.TheConstants.{MOST_CYCLES}
 use Rattle.air_history.specs.UpdateRules.{has_repeat}
 use Rattle.air_model.specs.Airings.{chunks_of, disk_number}
 use Rattle.air_model.specs.Decks.{Deck, IsDeck, IsQuery, IsUpdate}
@@ -24,6 +25,7 @@ lone_is_deck = record {
   aired = each_edition (All (λ d. (0 < d.size) × (0 < d.freq))) lone refl (All-from_recursion (λ d. (0 < d.size) × (0 < d.freq)) lone.disks ((omega arith, omega arith), tt));
   few = omega arith;
   from_two = All-nil (λ r. 2 ≤ r.cycle);
+  within_a_run = All-nil (λ r. r.cycle ≤ MOST_CYCLES);
   rising = λ i j d less within. absurd (omega arith);
   updates = All-from_recursion (All (IsUpdate 1)) lone.updates (All-nil (IsUpdate 1), tt);
   readers = refl;
@@ -34,7 +36,6 @@ lone_is_deck = record {
     tt,
   );
   script = λ by. omega arith;
-  plain = refl;
 }
 
 -- No query asks twice for an item.

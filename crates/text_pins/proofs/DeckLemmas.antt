@@ -1,5 +1,5 @@
 -- The faults of short texts, computed, and that a reader of decks answers no other.
-use Rattle.std.proofs.Common.{◌≡◌, ◌+◌, ◌∙◌, ℕ, List, Result, Ok, Err, IfOk, IfErr, ap, arith, inl, inr, length, refl, subst, sym}
+use Rattle.std.proofs.Common.{◌≡◌, ◌+◌, ◌∙◌, ℕ, List, [], ◌∷◌, Result, Ok, Err, IfOk, IfErr, ap, arith, inl, inr, length, refl, subst, sym}
 use Rattle.std.specs.Prelude.{codes}
 use Rattle.csv.proofs.OnLiterals.{csv_on_literals}
 use Rattle.air_base.specs.Numbers.{number_of}
@@ -10,13 +10,14 @@ use Rattle.item_catalog.specs.Writes.{spelled_value_write, spelled_write}
 use Rattle.item_catalog.specs.Records.{records_of}
 use Rattle.item_catalog.proofs.FaultPlaces.{one_kind, one_place}
 use Rattle.item_catalog.specs.Fields.{freq_of, spelled_event}
-use Rattle.item_catalog.specs.Faults.{kinds_at, some_below}
+use Rattle.item_catalog.specs.Decks.{deck_of}
+use Rattle.item_catalog.specs.Faults.{declarations_in, kinds_at, some_below}
 use Rattle.item_catalog.specs.Grammar.{HasFault, IsErrorOf, Spells}
 use Rattle.item_catalog.specs.declared.faults.DeckError.{DeckError}
 use Rattle.item_catalog.specs.declared.faults.DeckError.TheVariants.{Fault, NoMemory}
 use Rattle.item_catalog.proofs.GrammarLemmas.{no_fault}
 use Rattle.text_pins.proofs.PlaceLemmas.{first_fault, first_fault_of_two, none_before_0, none_before_1, none_before_3}
-use Rattle.text_pins.specs.DeckAnswers.{IsDeckFaultOrNoMemory, committed_twice, unknown_second}
+use Rattle.text_pins.specs.DeckAnswers.{IsDeckFaultOrNoMemory, committed_twice, replanned_twice, spread_over_three, three_disks, unknown_second}
 
 -- ---- a text with a fault is answered by it
 
@@ -66,3 +67,22 @@ field_missing = (0, refl, first_fault _ 2 0 1 (omega arith) (none_before_0 _) re
 pub overdrawn : HasFault committed_twice 4 11
 unfolding HasFault kinds_at number_of spelled_value_write spelled_write spelled_event all_some some_below has_repeat csv_on_literals
 overdrawn = (3, refl, first_fault _ 5 3 11 (omega arith) (none_before_3 _ refl refl refl) refl)
+
+pub one_cycle : HasFault replanned_twice 2 7
+unfolding HasFault kinds_at number_of freq_of all_some csv_on_literals
+one_cycle = (1, refl, first_fault _ 3 1 7 (omega arith) (none_before_1 _ refl) refl)
+
+pub two_lengths : HasFault (codes "replan,2,1 2,1") 1 13
+unfolding HasFault kinds_at number_of freq_of all_some csv_on_literals
+two_lengths = (0, refl, first_fault _ 2 0 13 (omega arith) (none_before_0 _) refl)
+
+-- ---- a deck that is read
+
+replans_computed : (deck_of (declarations_in (records_of spread_over_three))).replans ≡ three_disks ∷ []
+unfolding number_of freq_of all_some csv_on_literals
+replans_computed = refl
+
+pub replans_told : (bytes : List ℕ) (result : Result Deck DeckError) → bytes ≡ spread_over_three → IfOk result (Spells bytes) → IfOk result (λ deck. deck.replans ≡ three_disks ∷ [])
+unfolding Spells
+replans_told bytes (Ok deck) is spelled = ap (λ (d : Deck). d.replans) spelled.parts ∙ ap (λ t. (deck_of (declarations_in (records_of t))).replans) is ∙ replans_computed
+replans_told bytes (Err error) is spelled = tt

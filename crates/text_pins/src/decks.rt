@@ -2,7 +2,7 @@
 //! They also fix the queries of a drill's deck, the updates of an updater, and what every deck keeps.
 
 ghost use Rattle.std.specs.Prelude.{◌≡◌, ◌≤◌, [], ◌∷◌, codes, get_or, length, sum_by, IfOk};
-ghost use Rattle.text_pins.specs.DeckAnswers.{IsDeckFaultOrNoMemory, committed_twice, unknown_second};
+ghost use Rattle.text_pins.specs.DeckAnswers.{IsDeckFaultOrNoMemory, committed_twice, replanned_twice, spread_over_three, three_disks, unknown_second};
 ghost use Rattle.text_pins.specs.SmallWrites.{setting_first, setting_second};
 
 use air_base::NoMemory;
@@ -35,6 +35,15 @@ pub fn greatest_frequency_refused(alloc: Global, bytes: &[u8]) -> Result<Deck, D
     read_deck(alloc, bytes)
 }
 
+/// A `-` in a replan goes by the number of that replan's disks, and by the deck's delta: of three disks the first is aired three times.
+#[tactic(auto, using(crate::proofs::DeckLemmas::replans_told))]
+pub fn frequency_by_the_disks_of_the_deck(alloc: Global, bytes: &[u8]) -> Result<Deck, DeckError>
+    requires { bytes.now ≡ spread_over_three }
+    ensures { IfOk result (λ deck. deck.replans ≡ three_disks ∷ []) }
+{
+    read_deck(alloc, bytes)
+}
+
 /// Of an item with a wrong number and too great a rate the number is told.
 pub fn greatest_kind_for_the_least(alloc: Global, bytes: &[u8]) -> Result<Deck, DeckError>
     requires { bytes.now ≡ codes "item,1,0,1000001" }
@@ -43,10 +52,26 @@ pub fn greatest_kind_for_the_least(alloc: Global, bytes: &[u8]) -> Result<Deck, 
     read_deck(alloc, bytes)
 }
 
+/// A replan has as many frequencies as sizes.
+pub fn lists_of_two_lengths(alloc: Global, bytes: &[u8]) -> Result<Deck, DeckError>
+    requires { bytes.now ≡ codes "replan,2,1 2,1" }
+    ensures { IsDeckFaultOrNoMemory 1 13 result }
+{
+    read_deck(alloc, bytes)
+}
+
 /// Records are counted from 1.
 pub fn record_before_the_faulty_one(alloc: Global, bytes: &[u8]) -> Result<Deck, DeckError>
     requires { bytes.now ≡ unknown_second }
     ensures { IsDeckFaultOrNoMemory 2 9 result }
+{
+    read_deck(alloc, bytes)
+}
+
+/// A replan's cycle is above that of the replan before.
+pub fn replan_in_the_cycle_of_the_one_before(alloc: Global, bytes: &[u8]) -> Result<Deck, DeckError>
+    requires { bytes.now ≡ replanned_twice }
+    ensures { IsDeckFaultOrNoMemory 2 7 result }
 {
     read_deck(alloc, bytes)
 }

@@ -19,7 +19,7 @@ use air_base::{Form, NoMemory};
 use air_devices::{Gate, Mast};
 use air_history::Update;
 use air_model::reports::LookLine;
-use chunk_program::Program;
+use chunk_program::Plans;
 use control_matrix::Board;
 use cycle_snapshot::{Monitor, Publisher};
 use deck_runs::{ConductFault, conductor_job, last_look, monitor_job, updater_job};
@@ -96,7 +96,7 @@ pub fn cycle_left_out<R: Wait, M: Mast, G: Gate>(
     pass: &mut ConductorPass,
     publisher: &mut Publisher,
     board: &mut Board,
-    program: &Program,
+    plans: &Plans,
     form: Form,
     mast: &mut M,
     buf: &mut [u8],
@@ -106,14 +106,14 @@ pub fn cycle_left_out<R: Wait, M: Mast, G: Gate>(
     requires step { AreInStep pass.old publisher.old board.old }
     requires seen { starts pass.old.seen ≡ 0 }
     requires room { publisher.old.most ≡ 2 }
-    requires airable { CanAirIn form pass.old.values program.now (length buf.old) }
+    requires airable { CanAirIn form pass.old.values plans.now (length buf.old) }
     ensures started { OnOk result (starts pass.new.seen ≡ 2) }
     ensures published { OnOk result (length publisher.new.batches ≡ 2) }
     ensures each { All (λ batch. (commits : List Event) × (batch ≡ commits ++ Start ∷ []) × (starts commits ≡ 0)) publisher.new.batches }
     ensures whole { OnOk result ((later : List Event) × (pass.new.seen ≡ batch_events publisher.new.batches ++ later) × (starts later ≡ 0)) }
 {
     conductor_job(
-        wait, alloc, station, pass, publisher, board, program, form, 2, mast, buf, gate,
+        wait, alloc, station, pass, publisher, board, plans, form, 2, mast, buf, gate,
     )
 }
 
@@ -127,7 +127,7 @@ pub fn board_left_behind<R: Wait, M: Mast, G: Gate>(
     pass: &mut ConductorPass,
     publisher: &mut Publisher,
     board: &mut Board,
-    program: &Program,
+    plans: &Plans,
     form: Form,
     mast: &mut M,
     buf: &mut [u8],
@@ -136,7 +136,7 @@ pub fn board_left_behind<R: Wait, M: Mast, G: Gate>(
     requires own { pass.old.station ≡ station.now }
     requires step { AreInStep pass.old publisher.old board.old }
     requires room { (starts pass.old.seen ≡ 0) × (publisher.old.most ≡ 2) }
-    requires airable { CanAirIn form pass.old.values program.now (length buf.old) }
+    requires airable { CanAirIn form pass.old.values plans.now (length buf.old) }
     requires faults { (M.state mast.old).faults ≡ 0 }
     ensures few { OnErr result (starts pass.new.seen ≤ 2) }
     ensures in_step { (sent : ℕ) → result ≡ Err (ConductFault.Mast sent) → length publisher.new.batches ≡ starts pass.new.seen }
@@ -144,6 +144,6 @@ pub fn board_left_behind<R: Wait, M: Mast, G: Gate>(
     ensures board { board.new.cycle ≡ starts pass.new.seen }
 {
     conductor_job(
-        wait, alloc, station, pass, publisher, board, program, form, 2, mast, buf, gate,
+        wait, alloc, station, pass, publisher, board, plans, form, 2, mast, buf, gate,
     )
 }

@@ -1,4 +1,4 @@
--- For private steps alone. Why a deck that has a program isn't cast, and why its readers don't report of what they hear.
+-- For private steps alone. Why a deck that has plans isn't cast, and why its readers don't report of what they hear.
 use Rattle.std.specs.Prelude.{◌≡◌, ◌≤◌, ℕ, ⊤}
 use Rattle.air_base.specs.declared.limits.TheConstants.{MOST_TAPE_BYTES}
 use Rattle.air_cli.specs.declared.commands.hearings.HearFault.{HearFault}
@@ -21,7 +21,7 @@ abbrev pub cast_status : RunFault → Status
 cast_status (run.Mast sent) = status.AirFault sent
 cast_status run.NoMemory = status.NoMemory
 
--- Why a deck that has a program isn't cast: the tape of its run would be too long, and the mast is as it was; or it wouldn't be, and
+-- Why a deck that has plans isn't cast: the tape of its run would be too long, and the mast is as it was; or it wouldn't be, and
 -- the mast failed.
 unfoldable pub IsCastRefusal : Deck → ℕ → MastState → MastState → Status → Type 0
 IsCastRefusal d to before now (status.TooLong bytes) = IsLongRun d bytes × (now ≡ before)

@@ -4,11 +4,13 @@ ghost use Rattle.std.specs.Prelude.{◌≡◌, IfErr, IfOk, OnOk};
 ghost use Rattle.air_model.specs.Outputs.{plan_output};
 ghost use Rattle.air_cli.specs.Private.BeforeDelivery.{IsMade, IsUnmade, ReadsInputs};
 ghost use Rattle.air_cli.specs.Plan.{plan_meaning};
-ghost use Rattle.air_cli.specs.RunnableDecks.{HasShortProgram, LengthCause};
+ghost use Rattle.air_cli.specs.RunnableDecks.{HasShortPrograms, LengthCause};
 
+mod disks;
 mod rows;
+mod texts;
 
-use self::rows::plan_text;
+use self::texts::plan_text;
 use crate::files::decks::read_deck_file;
 use crate::files::plans::plan_deck;
 use crate::outputs::report_and_tape::ReportAndTape;
@@ -21,11 +23,11 @@ use std::alloc::Global;
 #[tactic(auto, unfolding(crate::specs::RunnableDecks::LengthCause))]
 fn text_of_plan(alloc: Global, deck: Deck) -> Result<Vec<u8>, Status>
     ensures text { IfOk result (λ text. text.items ≡ plan_output deck) }
-    ensures short { OnOk result (HasShortProgram deck) }
+    ensures short { OnOk result (HasShortPrograms deck) }
     ensures refused { IfErr result (LengthCause deck) }
 {
-    let (cut, planned) = plan_deck(alloc, deck)?;
-    let text = plan_text(alloc, &cut, &planned)?;
+    let planned = plan_deck(alloc, deck)?;
+    let text = plan_text(alloc, &planned)?;
     Ok(text)
 }
 

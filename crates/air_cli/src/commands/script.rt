@@ -49,7 +49,7 @@ pub(crate) fn script<T: Threads + Sync, S: Shelf>(
     }
 }
 
-/// The named deck with its program, where its script can be aired: what that gives is known then, whatever output is to take the tape.
+/// The named deck with its plans, where its script can be aired: what that gives is known then, whatever output is to take the tape.
 fn read_script<S: Shelf>(alloc: Global, shelf: &mut S, name: &str) -> Result<Planned, Status>
     ensures few { IfOk result (λ deck. length (script_tape deck) ≤ MOST_TAPE_BYTES) }
     ensures made { IfOk result (λ deck. IsMade (script_meaning name.now None) (S.state shelf.old) (S.state shelf.new) (script_given deck)) }

@@ -1,25 +1,22 @@
-//! A deck with its program, and its cut; or the status that refuses it.
+//! A deck with its plans, or the status that refuses it.
 
 ghost use Rattle.std.specs.Prelude.{◌≡◌, IfErr, IfOk, OnOk};
-ghost use Rattle.air_model.specs.Decks.{disks_in};
-ghost use Rattle.air_cli.specs.RunnableDecks.{HasShortProgram, LengthCause};
+ghost use Rattle.air_cli.specs.RunnableDecks.{HasShortPrograms, LengthCause};
 
 use air_report::Status;
-use chunk_program::{Cut, PlanFault, Planned, cut};
+use chunk_program::{PlanFault, Planned};
 use item_catalog::Deck;
 use std::alloc::Global;
 
-/// The cut of a deck, and the deck with its program.
+/// A deck with its plans.
 #[tactic(auto, unfolding(crate::specs::RunnableDecks::LengthCause))]
-pub fn plan_deck(alloc: Global, deck: Deck) -> Result<(Cut, Planned), Status>
-    ensures cut { IfOk result (λ p. p.0 ≡ disks_in p.1 0) }
-    ensures planned { IfOk result (λ p. p.1 ≡ deck) }
-    ensures short { OnOk result (HasShortProgram deck) }
+pub fn plan_deck(alloc: Global, deck: Deck) -> Result<Planned, Status>
+    ensures planned { IfOk result (λ p. p ≡ deck) }
+    ensures short { OnOk result (HasShortPrograms deck) }
     ensures refused { IfErr result (LengthCause deck) }
 {
-    let cut = cut(alloc, &deck)?;
-    match Planned::new(alloc, deck, &cut) {
-        Ok(planned) => Ok((cut, planned)),
+    match Planned::new(alloc, deck) {
+        Ok(planned) => Ok(planned),
         Err(PlanFault::TooLong { slots }) => Err(Status::PlanTooLong { slots }),
         Err(PlanFault::NoMemory) => Err(Status::NoMemory),
     }

@@ -1,10 +1,10 @@
-//! The deck of a named file with its program, where the deck can be run, or the status that refuses it.
+//! The deck of a named file with its plans, where the deck can be run, or the status that refuses it.
 
 ghost use Rattle.std.specs.Prelude.{IfErr, IfOk};
 ghost use Rattle.air_model.specs.Decks.{IsDeck};
 ghost use Rattle.air_cli.specs.NamedFiles.{ReadsInput};
 ghost use Rattle.air_cli.specs.NamedDecks.{SpellsDeck};
-ghost use Rattle.air_cli.specs.RunnableDecks.{HasShortProgram, UnrunnableCause};
+ghost use Rattle.air_cli.specs.RunnableDecks.{HasShortPrograms, UnrunnableCause};
 
 use crate::files::decks::read_deck_file;
 use crate::files::plans::plan_deck;
@@ -13,7 +13,7 @@ use air_report::Status;
 use chunk_program::Planned;
 use std::alloc::Global;
 
-/// The deck of a named file with its program, where the deck can be run.
+/// The deck of a named file with its plans, where the deck can be run.
 #[tactic(auto, using(crate::proofs::CauseLemmas::deck_runs, crate::proofs::CauseLemmas::length_runs))]
 pub fn read_runnable_deck<S: Shelf>(
     alloc: Global,
@@ -22,12 +22,12 @@ pub fn read_runnable_deck<S: Shelf>(
 ) -> Result<Planned, Status>
     ensures deck { IfOk result (SpellsDeck name.now (S.state shelf.old)) }
     ensures made { IfOk result IsDeck }
-    ensures runnable { IfOk result HasShortProgram }
+    ensures runnable { IfOk result HasShortPrograms }
     ensures refused { IfErr result (UnrunnableCause name.now (S.state shelf.old) (S.state shelf.new)) }
     ensures reads { ReadsInput name.now result (S.state shelf.old) (S.state shelf.new) }
 {
     let deck = read_deck_file(alloc, shelf, name)?;
     deck.shows_well_made();
-    let (_cut, planned) = plan_deck(alloc, deck)?;
+    let planned = plan_deck(alloc, deck)?;
     Ok(planned)
 }

@@ -1,8 +1,8 @@
 -- For private steps alone. One cycle of a conductor.
-use Rattle.std.specs.Prelude.{◌≡◌, ℕ, ◌+◌, List, length}
+use Rattle.std.specs.Prelude.{◌≡◌, ℕ, ◌+◌, List, length, Option}
 use Rattle.air_history.specs.declared.histories.Event.{Event}
 use Rattle.air_model.specs.Aired.{Air}
-use Rattle.air_devices.specs.Masts.{MastState}
+use Rattle.air_devices.specs.Masts.{MastState, SentBuckets}
 use Rattle.cycle_snapshot.specs.Batches.{IsBatch}
 use Rattle.cycle_snapshot.specs.SnapshotStates.{PublisherState, with_batch}
 use Rattle.deck_runs.specs.declared.jobs.conductors.ConductFault.{ConductFault}
@@ -12,6 +12,11 @@ use Rattle.deck_runs.specs.Sendings.{FailsAfter, SendsCycles}
 -- One batch was published.
 abbrev pub AddsBatch : PublisherState → PublisherState → Type 0
 AddsBatch f g = (batch : List Event) × (g ≡ with_batch f batch) × IsBatch (length f.values) batch
+
+-- The longer list starts so many cycles more, and what it airs beyond the shorter, which are so many buckets, was sent.
+pub record SendsCounted (values : List ℕ) (air : Air) (cycles count : ℕ) (G H : List Event) (before now : Option SentBuckets) : Type 0 where
+  pub sends : SendsCycles values air cycles G H before now
+  pub counted : length sends.more ≡ count
 
 -- What the fault of a cycle says of what was sent of the buckets of the published lists; so many buckets of the job were sent before.
 abbrev pub SendsInCycle : {M : Type 0} → (M → MastState) → List ℕ → Air → ℕ → List Event → List Event → M → M → ConductFault → Type 0

@@ -1,7 +1,6 @@
 //! The conductor's job.
 ghost use Rattle.std.specs.Prelude.{◌≡◌, ◌<◌, ◌≤◌, ◌+◌, ◌^◌, length, IfErr, MatchResult, OnErr, OnOk};
 ghost use Rattle.air_history.specs.Histories.{starts};
-ghost use Rattle.air_model.specs.Programs.{program as slots_of};
 ghost use Rattle.air_model.specs.Aired.{Air};
 ghost use Rattle.deck_runs.specs.PublishedBatches.{AreInStep, GoesOn, IsBoardOf, IsPublishedUpTo, PublishesOn};
 ghost use Rattle.deck_runs.specs.Sendings.{CanAirIn, IsAirOf, IsCause, SendsCycles, SendsUpTo};
@@ -10,7 +9,7 @@ use crate::jobs::cycles::conduct_cycle;
 use crate::jobs::means::Means;
 use air_base::{Form, NoMemory};
 use air_devices::{Gate, Mast};
-use chunk_program::Program;
+use chunk_program::Plans;
 use control_matrix::Board;
 use cycle_snapshot::Publisher;
 use station::{ConductorPass, Station};
@@ -38,10 +37,11 @@ impl From<NoMemory> for ConductFault {
 }
 
 /// Conducts so many cycles, in this form. A cycle starts; its fresh events are applied to the board, once each; they are published as one batch;
-/// and its buckets are sent. What was sent are the buckets of the history that the pass has seen, for each way in which receivers
-/// may know them. Whatever the answer, the board is that of what the pass has seen up to its last start.
+/// and its buckets are sent, those of the program in force in it. What was sent are the buckets of the history that the pass has seen, for
+/// each way in which receivers may know them. Whatever the answer, the board is that of what the pass has seen up to its last start.
 /// `ConductorPass::started` tells how many cycles the pass started, `Board::n` how many values there are, and `entry_size` how many
-/// bytes the buffer needs for each. Each cycle stands between its two gate calls, of which no clause speaks.
+/// bytes the buffer needs for each; `Plans::plan` makes the deck's plans, whose programs have its items. Each cycle stands between its two
+/// gate calls, of which no clause speaks.
 pub fn conductor_job<R: Wait, M: Mast, G: Gate>(
     wait: &R,
     alloc: Global,
@@ -49,7 +49,7 @@ pub fn conductor_job<R: Wait, M: Mast, G: Gate>(
     pass: &mut ConductorPass,
     publisher: &mut Publisher,
     board: &mut Board,
-    program: &Program,
+    plans: &Plans,
     form: Form,
     cycles: u32,
     mast: &mut M,
@@ -59,24 +59,26 @@ pub fn conductor_job<R: Wait, M: Mast, G: Gate>(
     requires own { pass.old.station ≡ station.now }
     requires step { AreInStep pass.old publisher.old board.old }
     requires room { (starts pass.old.seen + cycles ≤ publisher.old.most) × (starts pass.old.seen + cycles + 1 < 2 ^ 32) }
-    requires airable { CanAirIn form pass.old.values program.now (length buf.old) }
+    requires airable { CanAirIn form pass.old.values plans.now (length buf.old) }
     ensures pass { GoesOn pass.old pass.new }
     ensures publisher { PublishesOn publisher.old publisher.new }
     ensures done { OnOk result (AreInStep pass.new publisher.new board.new × (starts pass.new.seen ≡ starts pass.old.seen + cycles)) }
     ensures board { IsBoardOf pass.new board.new }
     ensures few { OnErr result (starts pass.new.seen ≤ starts pass.old.seen + cycles) }
     ensures published { IfErr result (IsPublishedUpTo pass.new.seen publisher.new.batches) }
-    ensures aired { (air : Air) → IsAirOf pass.old.values form (slots_of program.now) air →
+    ensures aired { (air : Air) → IsAirOf pass.old.values form plans.now air →
         MatchResult result (λ _. SendsCycles pass.old.values air cycles pass.old.seen pass.new.seen (M.state mast.old).told (M.state mast.new).told) (SendsUpTo M.state pass.old.values air cycles pass.old pass.new publisher.old publisher.new mast.old mast.new) }
     ensures cause { MatchResult result (λ _. (M.state mast.new).faults ≡ (M.state mast.old).faults) (IsCause (M.state mast.old).faults (M.state mast.new).faults) }
     ensures port { (M.state mast.new).port ≡ (M.state mast.old).port }
     ensures buffer { length buf.new ≡ length buf.old }
 {
-    let means = Means::new(wait, alloc, station, program, form);
-    for k in 0..cycles {
+    let means = Means::new(wait, alloc, station, plans, form);
+    let mut sent = 0u64;
+    for _k in 0..cycles {
         let cycle = pass.started() + 1;
         gate.before_cycle(cycle);
-        conduct_cycle(&means, k, pass, publisher, board, mast, buf)?;
+        let slots = conduct_cycle(&means, sent, pass, publisher, board, mast, buf)?;
+        sent += u64::from(slots);
         gate.after_cycle(cycle);
     }
     Ok(())

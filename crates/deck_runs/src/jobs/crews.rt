@@ -60,7 +60,7 @@ impl ConductorRun {
             &mut self.pass,
             publisher,
             &mut self.board,
-            planned.program(),
+            planned.plans(),
             own_form(planned),
             settings.cycles,
             mast,

@@ -1,9 +1,9 @@
 //! One cycle of a conductor: it starts, its events change the board, their batch is published, and its buckets are sent.
-ghost use Rattle.std.specs.Prelude.{◌≡◌, ◌<◌, ◌≤◌, ◌+◌, ◌-◌, ◌*◌, ◌^◌, ◌++◌, ◌∷◌, List, [], length, All, IfErr, MatchResult, OnErr, OnOk};
+ghost use Rattle.std.specs.Prelude.{◌≡◌, ◌<◌, ◌≤◌, ◌+◌, ◌-◌, ◌^◌, ◌++◌, ◌∷◌, List, [], length, All, IfErr, IfOk, MatchResult, OnErr, OnOk};
+ghost use Rattle.air_base.specs.declared.limits.TheConstants.{MOST_SLOTS};
 ghost use Rattle.air_history.specs.declared.histories.Event.{Event};
 ghost use Rattle.air_history.specs.Histories.{starts, ItemsFit};
 ghost use Rattle.air_history.specs.Tables.{BasesRead};
-ghost use Rattle.air_model.specs.Programs.{program as slots_of};
 ghost use Rattle.air_model.specs.Aired.{Air};
 ghost use Rattle.air_sender.specs.BoardBuckets.{EntriesBelow};
 ghost use Rattle.air_sender.specs.AirFaults.{failed_slot};
@@ -11,8 +11,8 @@ ghost use Rattle.cycle_snapshot.specs.Batches.{IsBatch, batch_events};
 ghost use Rattle.control_matrix.specs.BoardSteps.{step_all};
 ghost use Rattle.deck_runs.specs.PublishedBatches.{AreInStep, GoesOn, IsBoardOf, IsPublishedUpTo, IsUpTo, PublishesOn};
 ghost use Rattle.deck_runs.specs.declared.jobs.conductors.ConductFault.TheVariants as fault;
-ghost use Rattle.deck_runs.specs.Sendings.{CanAirIn, IsAirOf, IsCause, SendsCycles};
-ghost use Rattle.deck_runs.specs.Private.CycleSteps.{AddsBatch, SendsInCycle};
+ghost use Rattle.deck_runs.specs.Sendings.{CanAirIn, IsAirOf, IsCause};
+ghost use Rattle.deck_runs.specs.Private.CycleSteps.{AddsBatch, SendsCounted, SendsInCycle};
 
 use crate::jobs::conductors::ConductFault;
 use crate::jobs::means::Means;
@@ -91,40 +91,43 @@ fn slot_of(fault: AirFault) -> u32
     }
 }
 
-/// Conducts one cycle of a job, after so many whole cycles. The fault tells how many buckets of the job were sent.
+/// Conducts one cycle of a job that sent so many buckets already, with the program in force in the cycle, and gives how many buckets the
+/// cycle has. The fault tells how many buckets of the job were sent.
 pub fn conduct_cycle<R: Wait, M: Mast>(
     means: &Means<'_, R>,
-    before: u32,
+    already: u64,
     pass: &mut ConductorPass,
     publisher: &mut Publisher,
     board: &mut Board,
     mast: &mut M,
     buf: &mut [u8],
-) -> Result<(), ConductFault>
+) -> Result<u32, ConductFault>
     requires own { pass.old.station ≡ means.now.station.now }
     requires step { AreInStep pass.old publisher.old board.old }
     requires room { (starts pass.old.seen < publisher.old.most) × (starts pass.old.seen + 2 < 2 ^ 32) }
-    requires airable { CanAirIn means.now.form pass.old.values means.now.program.now (length buf.old) }
+    requires airable { CanAirIn means.now.form pass.old.values means.now.plans.now (length buf.old) }
+    requires count { already + MOST_SLOTS < 2 ^ 64 }
     ensures pass { GoesOn pass.old pass.new }
     ensures publisher { PublishesOn publisher.old publisher.new }
     ensures done { OnOk result (AreInStep pass.new publisher.new board.new × (length publisher.new.batches ≡ length publisher.old.batches + 1)) }
     ensures board { IsBoardOf pass.new board.new }
     ensures few { OnErr result (starts pass.new.seen ≤ starts pass.old.seen + 1) }
     ensures published { IfErr result (IsPublishedUpTo pass.new.seen publisher.new.batches) }
-    ensures aired { (air : Air) → IsAirOf pass.old.values means.now.form (slots_of means.now.program.now) air →
-        MatchResult result (λ _. SendsCycles pass.old.values air 1 (batch_events publisher.old.batches) (batch_events publisher.new.batches) (M.state mast.old).told (M.state mast.new).told) (SendsInCycle M.state pass.old.values air (before * length (slots_of means.now.program.now)) (batch_events publisher.old.batches) (batch_events publisher.new.batches) mast.old mast.new) }
+    ensures slots { IfOk result (λ slots. slots ≤ MOST_SLOTS) }
+    ensures aired { (air : Air) → IsAirOf pass.old.values means.now.form means.now.plans.now air →
+        MatchResult result (λ slots. SendsCounted pass.old.values air 1 slots (batch_events publisher.old.batches) (batch_events publisher.new.batches) (M.state mast.old).told (M.state mast.new).told) (SendsInCycle M.state pass.old.values air already (batch_events publisher.old.batches) (batch_events publisher.new.batches) mast.old mast.new) }
     ensures cause { MatchResult result (λ _. (M.state mast.new).faults ≡ (M.state mast.old).faults) (IsCause (M.state mast.old).faults (M.state mast.new).faults) }
     ensures port { (M.state mast.new).port ≡ (M.state mast.old).port }
     ensures buffer { length buf.new ≡ length buf.old }
 {
-    means.program.shows_well_made();
     begin_cycle(means, pass, publisher, board)?;
-    match air_cycle(means.program, board, means.form, mast, buf) {
-        Ok(()) => Ok(()),
+    let program = means.plans.in_force(board.cycle());
+    let slots = program.slots();
+    match air_cycle(program, board, means.form, mast, buf) {
+        Ok(()) => Ok(slots),
         Err(fault) => {
-            let slots = u64::from(means.program.slots());
             let slot = u64::from(slot_of(fault));
-            let sent = u64::from(before) * slots + slot;
+            let sent = already + slot;
             Err(ConductFault::Mast { sent })
         }
     }

@@ -2,17 +2,17 @@
 ghost use Rattle.std.specs.Prelude.{◌≡◌};
 
 use air_base::Form;
-use chunk_program::Program;
+use chunk_program::Plans;
 use station::Station;
 use std::alloc::Global;
 
-/// The station at which cycles start, and the program and the form in which they are aired.
+/// The station at which cycles start, and the plans and the form in which they are aired.
 #[derive(Drop)]
 pub struct Means<'a, R> {
     pub wait: &'a R,
     pub alloc: Global,
     pub station: &'a Station,
-    pub program: &'a Program,
+    pub plans: &'a Plans,
     pub form: Form,
 }
 
@@ -22,18 +22,18 @@ impl<'a, R> Means<'a, R> {
         wait: &'a R,
         alloc: Global,
         station: &'a Station,
-        program: &'a Program,
+        plans: &'a Plans,
         form: Form,
     ) -> Means<'a, R>
         ensures station { result.station.now ≡ station.now }
-        ensures program { result.program.now ≡ program.now }
+        ensures plans { result.plans.now ≡ plans.now }
         ensures form { result.form ≡ form }
     {
         Means {
             wait,
             alloc,
             station,
-            program,
+            plans,
             form,
         }
     }

@@ -4,21 +4,38 @@ use crate::records::before::RecordsBefore;
 use crate::words::sentences::Sentence;
 use air_base::limits::{MOST_FULL_ITEMS, MOST_ITEMS};
 
+/// The sizes of the first replan whose sizes don't add up to the number of items; none where each does.
+fn replan_note(before: &RecordsBefore) -> Option<Sentence<'static>> {
+    for (place, sizes) in before.replan_sizes.iter().enumerate() {
+        let edition = place as u64 + 1;
+        if edition <= before.replans && *sizes != before.items {
+            let wording =
+                "the sizes of replan #last# add up to #first#, and the number of items is #second#";
+            return Some(Sentence::numbers(wording, *sizes, before.items, edition));
+        }
+    }
+    None
+}
+
 /// What is wrong at the end of a deck that declares all this.
 pub fn end_note(before: &RecordsBefore) -> Sentence<'static> {
-    if before.items == 0 && before.sizes == 0 {
+    if before.sizes != before.items {
+        let wording =
+            "the sizes of the disks add up to #first#, and the number of items is #second#";
+        return Sentence::numbers(wording, before.sizes, before.items, 0);
+    }
+    if let Some(sentence) = replan_note(before) {
+        return sentence;
+    }
+    if before.items == 0 {
         return Sentence::numbers("there is no item and no disk", 0, 0, 0);
     }
-    if before.sizes == before.items {
-        let wording =
-            "there are #first# items: at most #second#, and with set,version,2 at most #last#";
-        return Sentence::numbers(
-            wording,
-            before.items,
-            MOST_FULL_ITEMS as u64,
-            MOST_ITEMS as u64,
-        );
-    }
-    let wording = "the sizes of the disks add up to #first#, and the number of items is #second#";
-    Sentence::numbers(wording, before.sizes, before.items, 0)
+    let wording =
+        "there are #first# items: at most #second#, and with set,version,2 at most #last#";
+    Sentence::numbers(
+        wording,
+        before.items,
+        MOST_FULL_ITEMS as u64,
+        MOST_ITEMS as u64,
+    )
 }

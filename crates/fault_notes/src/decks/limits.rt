@@ -1,13 +1,14 @@
 //! Totals that pass a limit, numbers of a script, and updaters that commit more updates than they have.
 
+use crate::decks::replans::early_note;
 use crate::records::Record;
 use crate::records::before::RecordsBefore;
 use crate::records::lists::{Test, first_failing};
 use crate::records::tags::RecordTag;
 use crate::words::sentences::Sentence;
 use air_base::limits::{
-    MOST_DISKS, MOST_EVENTS, MOST_ITEMS, MOST_QUERIES, MOST_READERS, MOST_STARTS, MOST_UPDATERS,
-    MOST_UPDATES,
+    MOST_DISKS, MOST_EVENTS, MOST_ITEMS, MOST_QUERIES, MOST_READERS, MOST_REPLANS, MOST_STARTS,
+    MOST_UPDATERS, MOST_UPDATES,
 };
 
 /// A total that is above its limit; none where it isn't.
@@ -41,6 +42,11 @@ pub fn total_note(
     record: &Record,
     tag: RecordTag,
 ) -> Option<Sentence<'static>> {
+    if tag == RecordTag::Replan {
+        return total(before.edition(), "replans", MOST_REPLANS as u64).or(early_note(
+            before, record,
+        ));
+    }
     let (before, name, most) = match tag {
         RecordTag::Item => (before.items, "items", MOST_ITEMS as u64),
         RecordTag::Disk => (before.disks, "disks", MOST_DISKS as u64),

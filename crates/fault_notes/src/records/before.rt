@@ -1,8 +1,9 @@
 //! What the records before a faulty one say, of a deck or of a report. They have no fault, so each is taken as its tag says.
 
 use crate::decks::settings::setting_place;
+use crate::records::lists::sum_of;
 use crate::records::tags::{RecordTag, TaggedForm, deck_form, report_form, section};
-use air_base::limits::MOST_UPDATERS;
+use air_base::limits::{MOST_REPLANS, MOST_UPDATERS};
 use air_base::read_u64;
 use csv::ByteRecord;
 
@@ -12,6 +13,9 @@ pub struct RecordsBefore {
     pub items: u64,
     pub disks: u64,
     pub sizes: u64,
+    pub replans: u64,
+    pub replan_sizes: [u64; MOST_REPLANS],
+    pub last_cycle: u64,
     pub updates: u64,
     pub updates_by: [u64; MOST_UPDATERS],
     pub readers: u64,
@@ -59,6 +63,9 @@ impl RecordsBefore {
             items: 0,
             disks: 0,
             sizes: 0,
+            replans: 0,
+            replan_sizes: [0; MOST_REPLANS],
+            last_cycle: 0,
             updates: 0,
             updates_by: [0; MOST_UPDATERS],
             readers: 0,
@@ -91,6 +98,21 @@ impl RecordsBefore {
         }
     }
 
+    /// The number of the next replan, which is the edition of its program.
+    pub fn edition(&self) -> u64 {
+        self.replans.saturating_add(1)
+    }
+
+    /// Takes one more replan.
+    fn add_replan(&mut self, record: &ByteRecord) {
+        if self.replans < MOST_REPLANS as u64 {
+            let place = self.replans as usize;
+            self.replan_sizes[place] = sum_of(text_in(record, 2));
+        }
+        raise(&mut self.replans);
+        self.last_cycle = number_in(record, 1);
+    }
+
     /// Takes one more record of a deck.
     fn add_to_deck(&mut self, record: &ByteRecord, tag: RecordTag) {
         match tag {
@@ -99,6 +121,7 @@ impl RecordsBefore {
                 raise(&mut self.disks);
                 self.sizes = self.sizes.saturating_add(number_in(record, 1));
             }
+            RecordTag::Replan => self.add_replan(record),
             RecordTag::Update => {
                 raise(&mut self.updates);
                 raise_of(&mut self.updates_by, number_in(record, 1));

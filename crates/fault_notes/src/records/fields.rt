@@ -1,12 +1,12 @@
 //! The fields of records: what each has to spell, and within which limits.
 
 use crate::records::Record;
-use crate::records::lists::parts_in;
+use crate::records::lists::{first_outside, parts_in};
 use crate::words::sentences::{Sentence, range};
 use crate::words::texts::{parted_at, parted_at_sign, why_no_number};
 use air_base::limits::{
-    MOST_AGE, MOST_ASKED, MOST_FREQ, MOST_RATE, MOST_READS, MOST_ROOM, MOST_SIZE, MOST_TRIES,
-    MOST_UPDATERS, MOST_WRITES,
+    MOST_AGE, MOST_ASKED, MOST_CYCLES, MOST_DISKS, MOST_FREQ, MOST_RATE, MOST_READS, MOST_ROOM,
+    MOST_SIZE, MOST_TRIES, MOST_UPDATERS, MOST_WRITES,
 };
 use air_base::read_u64;
 
@@ -17,6 +17,8 @@ enum Sort {
     Frequency,
     Place,
     Items,
+    Sizes,
+    Frequencies,
     Writes,
     Events,
     Reads,
@@ -32,12 +34,15 @@ const SHORT: u64 = u32::MAX as u64;
 const LAST_UPDATER: u64 = MOST_UPDATERS as u64 - 1;
 
 /// The fields of a deck's records.
-const DECK: [Field; 14] = [
+const DECK: [Field; 17] = [
     ("<id>", "id", Sort::Number, 0, u64::MAX),
     ("<value>", "value", Sort::Number, 0, u64::MAX),
     ("<rate>", "rate", Sort::Number, 0, MOST_RATE),
     ("<size>", "size", Sort::Number, 1, MOST_SIZE),
     ("<freq>", "frequency", Sort::Frequency, 1, MOST_FREQ),
+    ("<cycle>", "cycle", Sort::Number, 2, MOST_CYCLES),
+    ("<sizes>", "sizes", Sort::Sizes, 1, MOST_DISKS as u64),
+    ("<freqs>", "frequencies", Sort::Frequencies, 0, u64::MAX),
     ("<by>", "updater", Sort::Number, 0, LAST_UPDATER),
     ("<reads>", "reads", Sort::Items, 0, MOST_READS as u64),
     ("<writes>", "writes", Sort::Writes, 1, MOST_WRITES as u64),
@@ -134,7 +139,12 @@ impl Sort {
     fn is_list(self) -> bool {
         matches!(
             self,
-            Sort::Items | Sort::Writes | Sort::Events | Sort::Reads
+            Sort::Items
+                | Sort::Sizes
+                | Sort::Frequencies
+                | Sort::Writes
+                | Sort::Events
+                | Sort::Reads
         )
     }
 
@@ -148,6 +158,8 @@ impl Sort {
             Sort::Writes => { Some("none of item=amount, item=base+amount and item=base-amount") }
             _ if is_number(bytes, u64::MAX) => None,
             Sort::Frequency if text == "-" => None,
+            Sort::Frequencies if text == "-" => None,
+            Sort::Frequencies => Some("neither - nor a number"),
             Sort::Events if text == "s" => None,
             Sort::Events => Some("neither s nor the number of an updater"),
             _ => Some(why_no_number(text)),
@@ -205,6 +217,18 @@ fn field_note<'a>(field: Field, text: &'a str) -> Option<Sentence<'a>> {
     Some(Sentence::words(wording, text, name, why))
 }
 
+/// A size or a frequency of a list passes its limit; none where none does, and in another list.
+fn part_note<'a>(name: &'static str, form: Sort, list: &str) -> Option<Sentence<'a>> {
+    let most = match form {
+        Sort::Sizes => MOST_SIZE,
+        Sort::Frequencies => MOST_FREQ,
+        _ => return None,
+    };
+    let number = first_outside(list, 1, most)?;
+    let wording = "has #first# among its #name#: each is ";
+    Some(Sentence::words(wording, "", name, "").with(number, most, range(1)))
+}
+
 /// A field passes a limit; none where it doesn't.
 fn limit_note<'a>(field: Field, text: &'a str) -> Option<Sentence<'a>> {
     let (_, name, form, least, most) = field;
@@ -214,7 +238,7 @@ fn limit_note<'a>(field: Field, text: &'a str) -> Option<Sentence<'a>> {
         ("has the #name# #first#: ", read_u64(text.as_bytes())?)
     };
     if least <= number && number <= most {
-        return None;
+        return part_note(name, form, text);
     }
     Some(Sentence::words(wording, "", name, "").with(number, most, range(least)))
 }

@@ -1,4 +1,4 @@
-//! Lists of items, of writes and of reads.
+//! Lists of numbers, of items, of writes and of reads.
 
 use crate::words::texts::{parted_at, parted_at_sign, text_before};
 use air_base::read_u64;
@@ -31,6 +31,27 @@ pub fn parts_in(text: &str) -> u64 {
         return 0;
     }
     text.split(' ').count() as u64
+}
+
+/// The sum of a list of numbers; a part that is none counts as 0.
+pub fn sum_of(text: &str) -> u64 {
+    let mut sum = 0_u64;
+    for part in text.split(' ') {
+        sum = sum.saturating_add(read_u64(part.as_bytes()).unwrap_or(0));
+    }
+    sum
+}
+
+/// The first number of a list that is below `least` or above `most`; none where each is within.
+pub fn first_outside(text: &str, least: u64, most: u64) -> Option<u64> {
+    for part in text.split(' ') {
+        if let Some(number) = read_u64(part.as_bytes())
+            && (number < least || most < number)
+        {
+            return Some(number);
+        }
+    }
+    None
 }
 
 /// How often an item stands in a list.

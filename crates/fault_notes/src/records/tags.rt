@@ -7,6 +7,7 @@ ghost use Rattle.std.specs.Prelude.{◌<◌};
 pub enum RecordTag {
     Item,
     Disk,
+    Replan,
     Update,
     Reader,
     Query,
@@ -35,9 +36,14 @@ pub struct TaggedForm {
 type Row = (RecordTag, &'static str, &'static str);
 
 /// The records of a deck.
-const DECK: [Row; 7] = [
+const DECK: [Row; 8] = [
     (RecordTag::Item, "item", "item,<id>,<value>,<rate>"),
     (RecordTag::Disk, "disk", "disk,<size>,<freq>"),
+    (
+        RecordTag::Replan,
+        "replan",
+        "replan,<cycle>,<sizes>,<freqs>",
+    ),
     (RecordTag::Update, "update", "update,<by>,<reads>,<writes>"),
     (RecordTag::Reader, "reader", "reader,<room>,<age>,<tries>"),
     (RecordTag::Query, "query", "query,<reader>,<items>"),
@@ -133,7 +139,8 @@ pub fn section(tag: RecordTag) -> usize
 pub fn has_list(tag: RecordTag) -> bool {
     matches!(
         tag,
-        RecordTag::Update
+        RecordTag::Replan
+            | RecordTag::Update
             | RecordTag::Query
             | RecordTag::Script
             | RecordTag::Accept

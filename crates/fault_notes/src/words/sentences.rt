@@ -19,12 +19,12 @@ pub struct Sentence<'a> {
     last: u64,
 }
 
-/// The numbers from 0 or 1 to `second`.
+/// The numbers from 0, 1 or 2 to `second`.
 pub fn range(least: u64) -> &'static str {
-    if least == 0 {
-        "at most #second#"
-    } else {
-        "1 to #second#"
+    match least {
+        0 => "at most #second#",
+        1 => "1 to #second#",
+        _ => "2 to #second#",
     }
 }
 

@@ -1,6 +1,6 @@
 -- For private steps alone. What contracts see of a deck while it is read, and what its fields keep.
-use Rattle.std.specs.Prelude.{◌≡◌, ◌≤◌, length}
-use Rattle.air_base.specs.declared.limits.TheConstants.{MOST_DISKS, MOST_ITEMS, MOST_QUERIES, MOST_READERS, MOST_UPDATERS, MOST_UPDATES}
+use Rattle.std.specs.Prelude.{◌≡◌, ◌≤◌, length, All}
+use Rattle.air_base.specs.declared.limits.TheConstants.{MOST_DISKS, MOST_ITEMS, MOST_QUERIES, MOST_READERS, MOST_REPLANS, MOST_UPDATERS, MOST_UPDATES}
 use Rattle.item_catalog.specs.Private.Drafts.{DraftValue}
 use Rattle.item_catalog.specs.declared.deck.draft.Draft.TheInside.{Inside}
 
@@ -9,6 +9,8 @@ abbrev pub draft_seen : Inside → DraftValue
 draft_seen d = record {
   items = d.items.items;
   disks = d.disks.items;
+  replans = d.replans.items;
+  last_cycle = d.last_cycle;
   updates = d.updates.items;
   updaters = d.updaters;
   update_count = d.update_count;
@@ -23,6 +25,8 @@ draft_seen d = record {
 pub record DraftKept (d : Inside) : Type 0 where
   pub items : length d.items.items ≤ MOST_ITEMS
   pub disks : length d.disks.items ≤ MOST_DISKS
+  pub replans : length d.replans.items ≤ MOST_REPLANS
+  pub replan : All (λ r. length r.disks ≤ MOST_DISKS) d.replans.items
   pub updates : length d.updates.items ≡ MOST_UPDATERS
   pub updaters : d.updaters ≤ MOST_UPDATERS
   pub update_count : d.update_count ≤ MOST_UPDATES

@@ -5,15 +5,15 @@ use Rattle.air_history.specs.UpdateLists.{UpdateLists}
 use Rattle.air_model.specs.declared.deck.ReaderPlan.{ReaderPlan}
 use Rattle.item_catalog.specs.Declarations.{Declaration}
 use Rattle.item_catalog.specs.Declarations as e
-use Rattle.item_catalog.specs.Parts.{items_in, disk_parts_in, updates_in, updaters_in, count_updates, readers_in, queries_in, count_queries, script_in, set_in}
+use Rattle.item_catalog.specs.Parts.{ReplanSaid, disks_said, items_in, disk_parts_in, last_cycle, replans_in, updates_in, updaters_in, count_updates, readers_in, queries_in, count_queries, script_in, set_in}
 use Rattle.air_model.specs.Decks.{Deck}
-use Rattle.item_catalog.specs.Decks.{for_each, plain_item, with_freqs}
+use Rattle.item_catalog.specs.Decks.{for_each, plain_item, plain_replan, with_freqs}
 use Rattle.item_catalog.specs.Settings.{number_in, settings_in}
 use Rattle.item_catalog.specs.declared.deck.draft.settings.Name.TheVariants.{Delta}
 use Rattle.item_catalog.specs.RecordKinds.{least_kind, with_spelled}
 use Rattle.item_catalog.specs.ReadAnswers.{Answers}
 use Rattle.item_catalog.specs.declared.records.refusals.Refusal.{Refusal}
-use Rattle.item_catalog.specs.Faults.{item_tests, disk_tests, update_tests, reader_tests, query_tests, script_tests, set_tests}
+use Rattle.item_catalog.specs.Faults.{item_tests, disk_tests, replan_tests, update_tests, reader_tests, query_tests, script_tests, set_tests}
 use Rattle.item_catalog.specs.declared.faults.FaultKind.{FaultKind}
 use Rattle.item_catalog.specs.declared.parts.ItemPart.{ItemPart}
 use Rattle.item_catalog.specs.declared.parts.DiskPart.{DiskPart}
@@ -23,6 +23,8 @@ use Rattle.item_catalog.specs.declared.deck.draft.settings.Setting.{Setting}
 pub record DraftValue : Type 0 where
   pub items : List ItemPart
   pub disks : List DiskPart
+  pub replans : List ReplanSaid
+  pub last_cycle : ℕ
   pub updates : List (List UpdateLists)
   pub updaters : ℕ
   pub update_count : ℕ
@@ -37,6 +39,8 @@ abbrev pub draft_of : List Declaration → DraftValue
 draft_of declarations = record {
   items = items_in declarations;
   disks = disk_parts_in declarations;
+  replans = replans_in declarations;
+  last_cycle = last_cycle (replans_in declarations);
   updates = for_each MOST_UPDATERS (updates_in declarations);
   updaters = updaters_in declarations;
   update_count = count_updates declarations;
@@ -55,6 +59,7 @@ push_at lists place x = slice_set lists place (get_or lists place [] ++ x ∷ []
 abbrev pub with_declaration : DraftValue → Declaration → DraftValue
 with_declaration d (e.DeclaredItem id value rate) = record d { items = d.items ++ record { value = value; rate = rate } ∷ [] }
 with_declaration d (e.DeclaredDisk size freq) = record d { disks = d.disks ++ record { size = size; freq = freq } ∷ [] }
+with_declaration d (e.DeclaredReplan cycle sizes freqs) = record d { replans = d.replans ++ record { cycle = cycle; disks = disks_said sizes freqs } ∷ []; last_cycle = cycle }
 with_declaration d (e.DeclaredUpdate by reads writes) = record d {
   updates = push_at d.updates by (record { reads = reads; writes = writes });
   updaters = max d.updaters (by + 1);
@@ -69,6 +74,7 @@ with_declaration d (e.DeclaredSetting setting) = record d { set = d.set ++ setti
 abbrev pub draft_tests : DraftValue → Declaration → List (FaultKind × Bool)
 draft_tests d (e.DeclaredItem id value rate) = item_tests (length d.items) id rate
 draft_tests d (e.DeclaredDisk size freq) = disk_tests (length d.disks) size freq
+draft_tests d (e.DeclaredReplan cycle sizes freqs) = replan_tests (length d.replans) d.last_cycle cycle sizes freqs
 draft_tests d (e.DeclaredUpdate by reads writes) = update_tests (length d.items) d.update_count by reads writes
 draft_tests d (e.DeclaredReader room age tries) = reader_tests (length d.readers) room age tries
 draft_tests d (e.DeclaredQuery reader items) = query_tests (length d.items) (length d.readers) d.query_count reader items
@@ -80,7 +86,7 @@ abbrev pub deck_from : DraftValue → Deck
 deck_from d = record {
   items = map plain_item d.items;
   disks = with_freqs (number_in Delta d.set) d.disks;
-  replans = [];
+  replans = map (plain_replan (number_in Delta d.set)) d.replans;
   updates = take d.updaters d.updates;
   readers = d.readers;
   queries = take (length d.readers) d.queries;
@@ -100,6 +106,10 @@ AddsDeclaration result spelled old new = Answers result (record_kind old spelled
 abbrev pub UpdateRead : Result (ℕ × UpdateLists) (Refusal FaultKind) → Result Declaration FaultKind → DraftValue → Type 0
 UpdateRead result spelled d = Answers result (record_kind d spelled) (λ read. spelled ≡ Ok (e.DeclaredUpdate read.0 read.1.reads read.1.writes))
 
--- The same for a query.
+-- The same for a replan,
+abbrev pub ReplanRead : Result ReplanSaid (Refusal FaultKind) → Result Declaration FaultKind → DraftValue → Type 0
+ReplanRead result spelled d = Answers result (record_kind d spelled) (λ read. with_spelled with_declaration d spelled ≡ record d { replans = d.replans ++ read ∷ []; last_cycle = read.cycle })
+
+-- and for a query.
 abbrev pub QueryRead : Result (ℕ × List ℕ) (Refusal FaultKind) → Result Declaration FaultKind → DraftValue → Type 0
 QueryRead result spelled d = Answers result (record_kind d spelled) (λ read. spelled ≡ Ok (e.DeclaredQuery read.0 read.1))

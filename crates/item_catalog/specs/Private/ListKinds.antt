@@ -1,6 +1,6 @@
--- For private steps alone. The first kind that an update or a query has, by what was kept of its lists.
-use Rattle.std.specs.Prelude.{◌||◌, ℕ, [], ◌∷◌, Option, length, nat_le, nat_lt}
-use Rattle.air_base.specs.declared.limits.TheConstants.{MOST_ASKED, MOST_QUERIES, MOST_READS, MOST_UPDATERS, MOST_UPDATES, MOST_WRITES}
+-- For private steps alone. The first kind that an update, a query or a replan has, by what was kept of its lists.
+use Rattle.std.specs.Prelude.{◌||◌, ◌==◌, ℕ, [], ◌∷◌, Bool, Option, length, nat_le, nat_lt, not}
+use Rattle.air_base.specs.declared.limits.TheConstants.{MOST_ASKED, MOST_CYCLES, MOST_DISKS, MOST_QUERIES, MOST_READS, MOST_REPLANS, MOST_UPDATERS, MOST_UPDATES, MOST_WRITES}
 use Rattle.item_catalog.specs.KeptLists.{ItemsSeen, WritesSeen}
 use Rattle.item_catalog.specs.Ranges.{outside}
 use Rattle.item_catalog.specs.RecordKinds.{first_of}
@@ -21,3 +21,10 @@ seen_query_kind asked readers reader given = first_of (
     (fault.Undeclared, nat_le readers reader || asked.undeclared) ∷
     (fault.Twice, asked.repeated) ∷
     (fault.Limit, outside 1 MOST_ASKED (length asked.items) || nat_le MOST_QUERIES given) ∷ [])
+
+-- The first kind that a replan has, after so many replans with this last cycle, by the numbers of sizes and of frequencies that
+-- were kept, and whether one of them is none.
+abbrev pub seen_replan_kind : Bool → ℕ → ℕ → ℕ → ℕ → ℕ → Option FaultKind
+seen_replan_kind wrong replans last cycle sizes freqs = first_of (
+    (fault.Limit, nat_le MOST_REPLANS replans || outside 2 MOST_CYCLES cycle || nat_le cycle last || outside 1 MOST_DISKS sizes || wrong) ∷
+    (fault.Lengths, not (sizes == freqs)) ∷ [])

@@ -16,7 +16,7 @@ use Rattle.item_catalog.specs.declared.deck.draft.settings.Name.TheVariants.{Del
 
 -- The parts make a deck, where no kind applies at the end.
 abbrev pub CanEnd : DraftValue → Type 0
-CanEnd d = first_of (end_tests (length d.items) d.disks d.set) ≡ None → IsDeck (deck_from d) × WithinLimits (deck_from d) × (number_in Delta d.set ≤ MOST_DELTA)
+CanEnd d = first_of (end_tests (length d.items) d.disks d.replans d.set) ≡ None → IsDeck (deck_from d) × WithinLimits (deck_from d) × (number_in Delta d.set ≤ MOST_DELTA)
 
 -- The fault is that of the end, which is the record of this number.
 abbrev pub EndsBy : ℕ → Option FaultKind → DeckError → Type 0

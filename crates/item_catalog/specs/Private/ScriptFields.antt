@@ -1,4 +1,4 @@
--- For private steps alone. What the reader of a script speaks of: a leading start, the answer for a list, and what
+-- For private steps alone. What the reader of a script speaks of: a byte alone at the front, the answer for a list, and what
 -- a script keeps, its limits and its counts.
 use Rattle.std.specs.Prelude.{◌≡◌, ◌<◌, ◌≤◌, ◌==◌, ◌&&◌, ◌++◌, ℕ, List, [], ◌∷◌, Bool, false, Option, Some, None, length, get_or}
 use Rattle.air_base.specs.declared.limits.TheConstants.{MOST_EVENTS, MOST_STARTS, MOST_UPDATERS}
@@ -7,10 +7,10 @@ use Rattle.air_model.specs.Decks.{count_parts}
 use Rattle.item_catalog.specs.Faults.{count_starts, script_passes}
 use Rattle.item_catalog.specs.declared.scripts.Script.TheInside.{Inside}
 
--- A text's first part is the `s` of a start.
-abbrev pub begins_start : List ℕ → Bool
-begins_start [] = false
-begins_start (byte ∷ bytes) = (byte == 115) && ends_part bytes
+-- A text's first part is this byte alone.
+abbrev pub stands_alone : ℕ → List ℕ → Bool
+stands_alone word [] = false
+stands_alone word (byte ∷ bytes) = (byte == word) && ends_part bytes
 
 -- A reader of events answers whether they pass a limit, and has added them where they don't; none where the text spells no list.
 abbrev pub EventsRead : Option Bool → Option (List (Option ℕ)) → List (Option ℕ) → List (Option ℕ) → Type 0

@@ -15,13 +15,15 @@ ghost use Rattle.item_catalog.specs.Faults.{end_tests};
 ghost use Rattle.air_base.specs.Parts.{three_of, two_of};
 
 mod lists;
+mod replans;
 pub(crate) mod settings;
 
 use crate::deck::Deck;
 use crate::deck::draft::settings::{Name, Setting, delta_in, most_items, settings_in};
 use crate::faults::FaultKind;
 use crate::parts::{
-    DiskPart, ItemPart, Queries, Updates, is_no_freq, narrow_freq, read_freq, sizes_of,
+    DiskPart, ItemPart, Queries, ReplanPart, Updates, is_no_freq, narrow_freq, read_freq, sizes_of,
+    some_differs,
 };
 use crate::reading::{Tag, read_tag};
 use crate::records::fields::{three, two};
@@ -44,6 +46,8 @@ use std::marker::Model;
 pub struct Draft {
     items: Vec<ItemPart>,
     disks: Vec<DiskPart>,
+    replans: Vec<ReplanPart>,
+    last_cycle: u32,
     updates: Vec<Updates>,
     updaters: u32,
     update_count: u32,
@@ -97,6 +101,8 @@ impl Draft {
         Ok(Draft {
             items: Vec::new(alloc),
             disks: Vec::new(alloc),
+            replans: Vec::new(alloc),
+            last_cycle: 0,
             updates: no_updates(alloc)?,
             updaters: 0,
             update_count: 0,
@@ -199,6 +205,7 @@ impl Draft {
         match read_tag(fields) {
             Some(Tag::Item) => self.add_item(fields),
             Some(Tag::Disk) => self.add_disk(fields),
+            Some(Tag::Replan) => self.add_replan(alloc, fields),
             Some(Tag::Update) => self.add_update(alloc, fields),
             Some(Tag::Reader) => self.add_reader(fields),
             Some(Tag::Query) => self.add_query(alloc, fields),
@@ -210,12 +217,12 @@ impl Draft {
 
     /// The least kind that applies at the end.
     pub fn end_kind(&self) -> Option<FaultKind>
-        ensures { result ≡ first_of (end_tests (length self.now.items) self.now.disks self.now.set) }
+        ensures { result ≡ first_of (end_tests (length self.now.items) self.now.disks self.now.replans self.now.set) }
     {
-        if sizes_of(&self.disks) as usize != self.items.len() {
+        let items = self.items.len();
+        if sizes_of(&self.disks) as usize != items || some_differs(items, &self.replans) {
             return Some(FaultKind::Sizes);
         }
-        let items = self.items.len();
         if self.items.is_empty() || self.disks.is_empty() || most_items(&self.set) < items {
             return Some(FaultKind::Limit);
         }
@@ -237,6 +244,7 @@ impl Draft {
         Deck {
             items: self.items,
             disks: self.disks,
+            replans: self.replans,
             delta: delta_in(&self.set),
             updates,
             readers: self.readers,

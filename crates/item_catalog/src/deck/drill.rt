@@ -168,10 +168,12 @@ pub fn drill_deck(alloc: Global, seed: u64, size: u32) -> Result<Deck, NoMemory>
     let disks = drill_disks(alloc, n)?;
     let readers = drill_readers(alloc)?;
     let (script, starts) = drill_script(alloc, 10 * size)?.into_events();
+    let replans = Vec::new(alloc);
     drill_law();
     Ok(Deck {
         items,
         disks,
+        replans,
         delta: 0,
         updates,
         readers,

@@ -2,8 +2,9 @@
 //!
 //! Each function does to the state what words of `air_model` say.
 
-ghost use Rattle.std.specs.Prelude.{◌≡◌, ◌≢◌, ◌<◌, ◌+◌, ◌^◌, [], length, IfSome, Ok, Some};
+ghost use Rattle.std.specs.Prelude.{◌≡◌, ◌≢◌, ◌<◌, ◌+◌, ◌^◌, [], length, max, IfSome, Ok, Some};
 ghost use Rattle.air_base.specs.declared.verdicts.VerdictKind.TheVariants.{Abort, Aged};
+ghost use Rattle.air_model.specs.Aired.{pix_at};
 ghost use Rattle.air_model.specs.Buckets.{IsInRange, count_of, item_of, kind_of};
 ghost use Rattle.air_model.specs.Copies.{keep, with_copy};
 ghost use Rattle.air_model.specs.Judges.{by_entries};
@@ -15,6 +16,7 @@ ghost use Rattle.receiver_core.specs.LastReads.{in_state};
 ghost use Rattle.receiver_core.specs.Receivers.{heard_count};
 
 use super::{Fed, Receiver};
+use crate::airs::Air;
 use air_base::{Clash, Verdict, VerdictKind};
 use bucket_codec::{BucketView, ViewKind};
 use pix_cache::PixCache;
@@ -33,7 +35,7 @@ impl Receiver {
             return Fed::Foreign;
         }
         let cycle = bucket.cycle();
-        self.latest = self.latest.max(cycle);
+        self.come_to(cycle);
         if !self.wants(bucket) {
             self.counts.dozed += 1;
             return Fed::Dozed;
@@ -44,6 +46,15 @@ impl Receiver {
         }
         self.open(bucket);
         Fed::Opened
+    }
+
+    /// The newest heard cycle is this one, where none was newer; the copies are put in the order of the program in force in it.
+    pub(super) fn come_to(&mut self, cycle: u32)
+        ensures { self.new ≡ record self.old { state = record self.old.state { now = max self.old.state.now cycle } } }
+    {
+        let now = self.latest.max(cycle);
+        reorder(&mut self.copies, &self.air, self.latest, now);
+        self.latest = now;
     }
 
     /// Whether the bucket has the wanted item.
@@ -155,6 +166,17 @@ impl Receiver {
         self.query += 1;
         self.attempt = 1;
         self.held.clear();
+    }
+}
+
+/// Copies that are in the order of one cycle are put in that of another, where it is another edition's.
+fn reorder(copies: &mut PixCache, air: &Air, before: u32, now: u32)
+    requires numbers { length (pix_at air.now now) ≡ length copies.old.pix }
+    requires order { copies.old.pix ≡ pix_at air.now before }
+    ensures { copies.new ≡ record copies.old { pix = pix_at air.now now } }
+{
+    if before != now && air.edition_at(before) != air.edition_at(now) {
+        copies.reorder(air.pix(now));
     }
 }
 

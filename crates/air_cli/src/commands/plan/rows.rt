@@ -1,40 +1,46 @@
-//! The text of a plan: its rows, written as those of a report.
+//! The rows of an edition of a deck, written as those of a report.
 //!
-//! A row for the program, then one for each disk, each minor cycle and each item. The numbers are those that the
+//! A row for the program, then one for each disk, each minor cycle and each item. The numbers are those that the deck, the
 //! program and the cut tell.
 
 ghost use Rattle.std.specs.Prelude.{◌≡◌, ◌<◌, ◌++◌, None, get_or, length, map, slice_get, IfOk, IfSome, OnOk};
 ghost use Rattle.std.specs.List.{enumerate_from, range_with_len};
 ghost use Rattle.csv.specs.Writing.{row_text};
 ghost use Rattle.air_base.specs.NumberLists.{list_text};
-ghost use Rattle.air_model.specs.Decks.{disks_in, rates_in};
+ghost use Rattle.air_model.specs.Decks.{count_editions, disks_in, rates_in, specs_in};
 ghost use Rattle.air_model.specs.Programs.{minor_cycle, minor_len, num_minors};
-ghost use Rattle.air_model.specs.PlanTexts.{disk_row, item_row, minor_row, program_row, slot_text};
-ghost use Rattle.air_model.specs.Outputs.{plan_output};
+ghost use Rattle.air_model.specs.PlanTexts.{disk_row, edition_rows, item_row, minor_row, program_row, slot_text};
 ghost use Rattle.air_model.specs.Rows.{row_writer, rows_text};
 ghost use Rattle.air_report.specs.RowWriters.{IsRowWriter, written_text};
 
+use crate::commands::plan::disks::{disk_count, disk_freq};
 use air_base::{NoMemory, write_u64};
 use air_model::program::slots_law;
-use air_report::{finish, put_numbers, put_row, row_writer};
-use chunk_program::{Cut, Planned, Program};
+use air_report::{put_numbers, put_row};
+use chunk_program::{Cut, Planned, Program, cut};
 use csv::Writer;
 use std::alloc::Global;
 
-/// The text of the plan of a deck.
-pub(crate) fn plan_text(alloc: Global, cut: &Cut, planned: &Planned) -> Result<Vec<u8>, NoMemory>
-    requires { cut.now ≡ disks_in planned.now 0 }
-    ensures { IfOk result (λ text. text.items ≡ plan_output planned.now) }
+/// Adds the rows of an edition: one for the program, then one for each disk, each minor cycle and each item.
+pub(crate) fn put_edition(
+    alloc: Global,
+    wtr: Writer<Vec<u8>>,
+    planned: &Planned,
+    edition: u32,
+) -> Result<Writer<Vec<u8>>, NoMemory>
+    requires ready { IsRowWriter wtr }
+    requires edition { edition < count_editions planned.now }
+    ensures ready { IfOk result IsRowWriter }
+    ensures text { IfOk result (λ more. written_text more
+        ≡ written_text wtr ++ rows_text (edition_rows (rates_in planned.now) (specs_in planned.now edition))) }
 {
-    planned.shows_planned();
-    let program = planned.program();
-    let begun = row_writer(Vec::new(alloc));
-    let headed = put_program(alloc, begun, program)?;
-    let disks = put_disks(alloc, headed, planned)?;
+    let program = planned.program(edition);
+    let cut = cut(alloc, planned.deck(), edition)?;
+    let headed = put_program(alloc, wtr, program)?;
+    let disks = put_disks(alloc, headed, planned, edition)?;
     let minors = put_minors(alloc, disks, program)?;
-    let whole = put_items(alloc, minors, cut, planned)?;
-    let text = finish(whole)?;
-    Ok(text)
+    let whole = put_items(alloc, minors, &cut, planned, edition)?;
+    Ok(whole)
 }
 
 /// Adds the row of the program.
@@ -46,7 +52,7 @@ fn put_program(
     requires { IsRowWriter wtr }
     ensures ready { IfOk result IsRowWriter }
     ensures text { IfOk result (λ more.
-        written_text more ≡ written_text wtr ++ row_text row_writer (program_row program.now)) }
+        written_text more ≡ written_text wtr ++ row_text row_writer (program_row program.now.disks)) }
 {
     let ns = [
         u64::from(program.slots()),
@@ -62,16 +68,18 @@ fn put_disks(
     alloc: Global,
     wtr: Writer<Vec<u8>>,
     planned: &Planned,
+    edition: u32,
 ) -> Result<Writer<Vec<u8>>, NoMemory>
-    requires { IsRowWriter wtr }
+    requires ready { IsRowWriter wtr }
+    requires edition { edition < count_editions planned.now }
     ensures ready { IfOk result IsRowWriter }
     ensures text { IfOk result (λ more. written_text more
-        ≡ written_text wtr ++ rows_text (map (disk_row (num_minors (disks_in planned.now 0))) (enumerate_from 0 (disks_in planned.now 0)))) }
+        ≡ written_text wtr ++ rows_text (map (disk_row (num_minors (disks_in planned.now edition))) (enumerate_from 0 (disks_in planned.now edition)))) }
 {
     let deck = planned.deck();
     let mut wtr = wtr;
-    for d in 0..deck.disks() {
-        wtr = put_disk(alloc, wtr, planned, d)?;
+    for d in 0..disk_count(deck, edition) {
+        wtr = put_disk(alloc, wtr, planned, edition, d)?;
     }
     Ok(wtr)
 }
@@ -81,19 +89,20 @@ fn put_disk(
     alloc: Global,
     wtr: Writer<Vec<u8>>,
     planned: &Planned,
+    edition: u32,
     d: u32,
 ) -> Result<Writer<Vec<u8>>, NoMemory>
     requires ready { IsRowWriter wtr }
-    requires disk { d < length planned.now.disks }
+    requires edition { edition < count_editions planned.now }
+    requires disk { d < length (specs_in planned.now edition) }
     ensures ready { IfOk result IsRowWriter }
-    ensures text { IfOk result (λ more. IfSome (slice_get (disks_in planned.now 0) d) (λ disk.
-        written_text more ≡ written_text wtr ++ row_text row_writer (disk_row (num_minors (disks_in planned.now 0)) (d, disk)))) }
+    ensures text { IfOk result (λ more. IfSome (slice_get (disks_in planned.now edition) d) (λ disk.
+        written_text more ≡ written_text wtr ++ row_text row_writer (disk_row (num_minors (disks_in planned.now edition)) (d, disk)))) }
 {
-    let deck = planned.deck();
-    let program = planned.program();
+    let program = planned.program(edition);
     let ns = [
         u64::from(d),
-        u64::from(deck.freq(d)),
+        u64::from(disk_freq(planned.deck(), edition, d)),
         u64::from(program.chunks(d)),
         u64::from(program.chunk_len(d)),
     ];
@@ -110,7 +119,7 @@ fn put_minors(
     requires { IsRowWriter wtr }
     ensures ready { IfOk result IsRowWriter }
     ensures text { IfOk result (λ more. written_text more
-        ≡ written_text wtr ++ rows_text (map (minor_row program.now) (range_with_len 0 (num_minors program.now)))) }
+        ≡ written_text wtr ++ rows_text (map (minor_row program.now.disks) (range_with_len 0 (num_minors program.now.disks)))) }
 {
     let mut wtr = wtr;
     for k in 0..program.minors() {
@@ -127,10 +136,10 @@ fn put_minor(
     k: u32,
 ) -> Result<Writer<Vec<u8>>, NoMemory>
     requires ready { IsRowWriter wtr }
-    requires minor { k < num_minors program.now }
+    requires minor { k < num_minors program.now.disks }
     ensures ready { IfOk result IsRowWriter }
     ensures text { IfOk result (λ more.
-        written_text more ≡ written_text wtr ++ row_text row_writer (minor_row program.now k)) }
+        written_text more ≡ written_text wtr ++ row_text row_writer (minor_row program.now.disks k)) }
 {
     let mut number = Vec::new(alloc);
     write_u64(u64::from(k), &mut number)?;
@@ -142,9 +151,9 @@ fn put_minor(
 
 /// The slots of a minor cycle, with one space between each two.
 fn slots_text(alloc: Global, program: &Program, k: u32) -> Result<Vec<u8>, NoMemory>
-    requires { k < num_minors program.now }
+    requires { k < num_minors program.now.disks }
     ensures { IfOk result (λ text.
-        text.items ≡ list_text (map slot_text (minor_cycle (num_minors program.now) program.now k))) }
+        text.items ≡ list_text (map slot_text (minor_cycle (num_minors program.now.disks) program.now.disks k))) }
 {
     let mut text = Vec::new(alloc);
     for j in 0..program.minor_len() {
@@ -158,9 +167,9 @@ fn slots_text(alloc: Global, program: &Program, k: u32) -> Result<Vec<u8>, NoMem
 
 /// The item of a slot of a minor cycle; none where it is idle.
 fn slot_at(program: &Program, k: u32, j: u32) -> Option<u16>
-    requires minor { k < num_minors program.now }
-    requires slot { j < minor_len (num_minors program.now) program.now }
-    ensures { result ≡ get_or (minor_cycle (num_minors program.now) program.now k) j None }
+    requires minor { k < num_minors program.now.disks }
+    requires slot { j < minor_len (num_minors program.now.disks) program.now.disks }
+    ensures { result ≡ get_or (minor_cycle (num_minors program.now.disks) program.now.disks k) j None }
 {
     slots_law();
     let _slots = program.slots();
@@ -184,17 +193,19 @@ fn put_items(
     wtr: Writer<Vec<u8>>,
     cut: &Cut,
     planned: &Planned,
+    edition: u32,
 ) -> Result<Writer<Vec<u8>>, NoMemory>
     requires ready { IsRowWriter wtr }
-    requires cut { cut.now ≡ disks_in planned.now 0 }
+    requires edition { edition < count_editions planned.now }
+    requires cut { cut.now ≡ disks_in planned.now edition }
     ensures ready { IfOk result IsRowWriter }
     ensures text { IfOk result (λ more. written_text more
-        ≡ written_text wtr ++ rows_text (map (item_row (disks_in planned.now 0)) (enumerate_from 0 (rates_in planned.now)))) }
+        ≡ written_text wtr ++ rows_text (map (item_row (disks_in planned.now edition)) (enumerate_from 0 (rates_in planned.now)))) }
 {
     let deck = planned.deck();
     let mut wtr = wtr;
     for i in 0..deck.items() {
-        wtr = put_item(alloc, wtr, cut, planned, i)?;
+        wtr = put_item(alloc, wtr, cut, planned, edition, i)?;
     }
     Ok(wtr)
 }
@@ -205,17 +216,19 @@ fn put_item(
     wtr: Writer<Vec<u8>>,
     cut: &Cut,
     planned: &Planned,
+    edition: u32,
     i: u16,
 ) -> Result<Writer<Vec<u8>>, NoMemory>
     requires ready { IsRowWriter wtr }
-    requires cut { cut.now ≡ disks_in planned.now 0 }
+    requires edition { edition < count_editions planned.now }
+    requires cut { cut.now ≡ disks_in planned.now edition }
     requires item { i < length planned.now.items }
     ensures ready { IfOk result IsRowWriter }
     ensures text { IfOk result (λ more. IfSome (slice_get planned.now.items i) (λ item.
-        written_text more ≡ written_text wtr ++ row_text row_writer (item_row (disks_in planned.now 0) (i, item.rate)))) }
+        written_text more ≡ written_text wtr ++ row_text row_writer (item_row (disks_in planned.now edition) (i, item.rate)))) }
 {
     let deck = planned.deck();
-    let program = planned.program();
+    let program = planned.program(edition);
     let ns = [
         u64::from(i),
         u64::from(cut.disk_of(i)),

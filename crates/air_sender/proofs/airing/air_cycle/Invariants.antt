@@ -7,7 +7,7 @@ use Rattle.air_sender.proofs.airing.air_cycle.Given as goal
 -- The buckets of the slots before were sent, and nothing else changed.
 abbrev pub invariant-loop-slot : goal.invariant-loop-slot
 invariant-loop-slot g l = record {
-  sent : Changes (with_buckets (take l.slot (board_bytes l.form 0 (slots_of l.program) l.board))) (g.M.Mast.state l.fn.mast).told (g.M.Mast.state l.mast).told;
+  sent : Changes (with_buckets (take l.slot (board_bytes l.form l.program.edition (slots_of l.program.disks) l.board))) (g.M.Mast.state l.fn.mast).told (g.M.Mast.state l.mast).told;
   calm : (g.M.Mast.state l.mast).faults ≡ (g.M.Mast.state l.fn.mast).faults;
   port : (g.M.Mast.state l.mast).port ≡ (g.M.Mast.state l.fn.mast).port;
 }

@@ -8,6 +8,6 @@ use Rattle.air_sender.proofs.airing.cycle_len.Given as goal
 -- The records of the slots before, each with at most as many entries as a deck has items.
 abbrev pub invariant-loop-slot : goal.invariant-loop-slot
 invariant-loop-slot l = record {
-  len : l.len ≡ cycle_size l.version l.n (take l.slot (slots_of l.program));
+  len : l.len ≡ cycle_size l.version l.n (take l.slot (slots_of l.program.disks));
   few : l.len ≤ (LENGTH_BYTES + HEAD_BYTES + ENTRY_BYTES * MOST_ITEMS) * l.slot;
 }

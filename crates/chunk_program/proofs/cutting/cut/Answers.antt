@@ -8,4 +8,4 @@ pub new-requires : goal.new-requires
 new-requires c =
     let deck = c.args.deck.now in let rates = c.deref.ensures.value ∙ c.in_ok-rates.ensures in let specs = c.deref-2.ensures.value ∙ c.in_ok-specs.ensures in
     subst (λ l. IsCuttable l c.deref-2.result.now) (sym rates)
-    (subst (λ l. IsCuttable (rates_in deck) l) (sym specs) (deck_cuttable deck c.shows_well_made.ensures.made c.shows_well_made.ensures.limits))
+    (subst (λ l. IsCuttable (rates_in deck) l) (sym specs) (deck_cuttable deck c.args.edition c.shows_well_made.ensures.made c.shows_well_made.ensures.limits c.requires))

@@ -3,7 +3,6 @@ use Rattle.air_devices.specs.Counts.{Rose}
 use Rattle.deck_runs.specs.declared.threads.RunFault.TheVariants as fault
 use Rattle.deck_runs.specs.Casts.{IsCastAnswer}
 use Rattle.deck_runs.proofs.CastLemmas.{all_cast, end_behind, none_cast, run_cast}
-use Rattle.deck_runs.proofs.RunLemmas.{no_replans}
 use Rattle.deck_runs.proofs.casts.cast_run.Goals as goal
 
 pub returns-then-is_err-clause-fault : goal.returns-then-is_err-clause-fault
@@ -36,7 +35,7 @@ returns-in_err-send_end-clause-fault g c =
     let calm : aimed.faults ≡ old.faults = search rules in
     let all : IsCastAnswer deck old new (fault.Mast n) = (
       subst (λ k. Rose k new.faults) (c.in_ok-run.ensures.calm ∙ calm) c.in_err-send_end.ensures.rose,
-      all_cast deck _ n old.told aimed.told ran.told new.told (no_replans deck c.shows_planned.ensures.made) c.in_ok-run.ensures.run.whole c.bucket_count.ensures c.requires.unsent c.aim.ensures.kept c.in_ok-run.ensures.aired c.in_err-send_end.ensures.unended,
+      all_cast deck _ n old.told aimed.told ran.told new.told c.in_ok-run.ensures.run.whole c.bucket_count.ensures c.requires.unsent c.aim.ensures.kept c.in_ok-run.ensures.aired c.in_err-send_end.ensures.unended,
     ) in
     let h : IsCastAnswer deck old new e = subst (IsCastAnswer deck old new) (sym c.in_err-send_end.ensures.fault) all in
     search (rules, h)

@@ -7,7 +7,8 @@ use Rattle.station.specs.PassStates.{PassState}
 use Rattle.cycle_snapshot.specs.SnapshotStates.{PublisherState}
 use Rattle.update_commit.proofs.EventLemmas.{starts_none}
 use Rattle.deck_runs.proofs.RunLemmas.{can_air, new_in_step, values_sized}
-use Rattle.deck_runs_tests.proofs.AiredItems.{few_bytes, items_aired}
+use Rattle.chunk_program.proofs.EditionSteps.{have_items}
+use Rattle.deck_runs_tests.proofs.EntryBytes.{few_bytes}
 use Rattle.deck_runs_tests.proofs.jobs.conduct.Goals as goal
 
 pub conductor_job-requires-clause-own : goal.conductor_job-requires-clause-own
@@ -38,4 +39,4 @@ conductor_job-requires-clause-airable g c =
     let room = c.requires.buffer in
     let few = few_bytes deck.settings.version (length deck.items) in
     can_air deck _ _ _ _ made (ap (λ (s : Settings). let form : Form = record { policy = s.policy; version = s.version } in form) c.settings-settings.ensures) values
-    (items_aired deck c.args.program.now made c.requires.program ∙ sized) (omega arith)
+    c.requires.plans (have_items deck made c.shows_well_made.ensures.limits) (omega arith)

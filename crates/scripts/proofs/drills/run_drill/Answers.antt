@@ -1,4 +1,4 @@
-use Rattle.std.proofs.Common.{◌≡◌, ◌∙◌, List, ap}
+use Rattle.std.proofs.Common.{◌≡◌, ◌∙◌, List, ap, subst, sym}
 use Rattle.air_history.specs.declared.histories.Event.{Event}
 use Rattle.air_model.specs.declared.reports.CountsLine.{CountsLine}
 use Rattle.air_model.specs.declared.reports.VerdictLine.{VerdictLine}
@@ -6,6 +6,8 @@ use Rattle.air_model.specs.Decks.{Deck, script_history}
 use Rattle.air_model.specs.Outputs.{script_tape, true_sessions}
 use Rattle.air_model.specs.Reports.{counts_lines, verdict_lines}
 use Rattle.scripts.specs.DrillLines.{drill_line, drill_numbers, drill_output, script_line}
+use Rattle.chunk_program.specs.Plans.{AreShort}
+use Rattle.scripts.proofs.DrillTapes.{drill_short}
 use Rattle.scripts.proofs.drills.run_drill.Goals as goal
 
 -- What a deck's script came to is told by its line.
@@ -17,6 +19,9 @@ line_told deck H verdicts counts ran judged counted =
     ap (λ h. drill_line (drill_numbers deck h (script_tape deck) verdicts counts)) ran
     ∙ ap (λ v. drill_line (drill_numbers deck (script_history deck) (script_tape deck) v counts)) judged
     ∙ ap (λ n. drill_line (drill_numbers deck (script_history deck) (script_tape deck) (verdict_lines sessions) n)) counted
+
+pub plan_short-requires : goal.plan_short-requires
+plan_short-requires g c = subst AreShort (sym c.in_ok-deck.ensures) (drill_short c.args.seed c.args.size c.requires.some c.requires.few)
 
 pub returns : goal.returns
 unfolding drill_output

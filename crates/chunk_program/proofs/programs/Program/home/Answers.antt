@@ -3,11 +3,12 @@ use Rattle.std.proofs.lemmas.Option.{slice_get_read}
 use Rattle.air_model.specs.Disks.{Disk, all_items}
 use Rattle.chunk_program.specs.Homes.{IsHome}
 use Rattle.chunk_program.proofs.ProgramLemmas.{home_fits}
+use Rattle.chunk_program.specs.Editions.{EditionDisks}
 use Rattle.chunk_program.proofs.programs.Program.home.Goals as goal
 
 pub returns-clause-home : goal.returns-clause-home
 returns-clause-home c =
-    let always = c.self.invariant in let view = c.self.view_is in let i = c.args.item in let disks = c.self.inside.disks.items in
+    let always = c.self.invariant in let view = (ap (λ (p : EditionDisks). p.disks) c.self.view_is) in let i = c.args.item in let disks = c.self.inside.disks.items in
     let below = subst (λ (l : List Disk). i < length (all_items l)) (sym view) c.requires in
     let at = slice_get_read c.self.inside.homes.items (length c.self.inside.homes.items) i c.index.result.now refl (let long = always.len in omega arith) c.index.ensures in
     let own = always.homes i c.index.result.now at in
@@ -15,7 +16,7 @@ returns-clause-home c =
 
 pub returns-clause-few : goal.returns-clause-few
 returns-clause-few c =
-    let always = c.self.invariant in let view = c.self.view_is in let i = c.args.item in let disks = c.self.inside.disks.items in
+    let always = c.self.invariant in let view = (ap (λ (p : EditionDisks). p.disks) c.self.view_is) in let i = c.args.item in let disks = c.self.inside.disks.items in
     let below = subst (λ (l : List Disk). i < length (all_items l)) (sym view) c.requires in
     let at = slice_get_read c.self.inside.homes.items (length c.self.inside.homes.items) i c.index.result.now refl (let long = always.len in omega arith) c.index.ensures in
     let own = always.homes i c.index.result.now at in
@@ -24,7 +25,7 @@ returns-clause-few c =
 
 pub returns-clause-first : goal.returns-clause-first
 returns-clause-first c =
-    let always = c.self.invariant in let view = c.self.view_is in let i = c.args.item in let disks = c.self.inside.disks.items in
+    let always = c.self.invariant in let view = (ap (λ (p : EditionDisks). p.disks) c.self.view_is) in let i = c.args.item in let disks = c.self.inside.disks.items in
     let below = subst (λ (l : List Disk). i < length (all_items l)) (sym view) c.requires in
     let at = slice_get_read c.self.inside.homes.items (length c.self.inside.homes.items) i c.index.result.now refl (let long = always.len in omega arith) c.index.ensures in
     let own = always.homes i c.index.result.now at in

@@ -1,21 +1,20 @@
-use Rattle.std.proofs.Common.{◌≡◌, ◌+◌, ◌*◌, ◌∙◌, List, length, refl, sym, ap, subst, arith}
+use Rattle.std.proofs.Common.{◌≡◌, ◌+◌, ◌∙◌, length, refl, sym, ap, subst, arith}
 use Rattle.std.specs.Prelude.{Result, Ok, Err}
 use Rattle.std.specs.Result.{IsErrAnd}
 use Rattle.air_base.specs.declared.verdicts.Form.{Form}
 use Rattle.air_history.specs.Histories.{starts}
-use Rattle.air_model.specs.Disks.{Disk}
-use Rattle.air_model.specs.Programs.{program as slots_of}
 use Rattle.air_model.specs.Aired.{Air}
+use Rattle.chunk_program.specs.Editions.{Plans}
 use Rattle.cycle_snapshot.specs.Batches.{batch_events}
 use Rattle.deck_runs.specs.Sendings.{CanAirIn, IsAirOf, IsCause, SendsCycles}
-use Rattle.deck_runs.specs.Private.CycleSteps.{SendsInCycle}
+use Rattle.deck_runs.specs.Private.CycleSteps.{SendsCounted, SendsInCycle}
 use Rattle.deck_runs.proofs.CycleLemmas.{board_seen, goes_further, goes_nowhere, on_most, on_station, on_values, publishes_further, publishes_none}
-use Rattle.deck_runs.proofs.SendLemmas.{ends_by, seen_bytes, seen_starts, sends_as, sends_further, sends_none}
+use Rattle.deck_runs.proofs.SendLemmas.{counts_further, counts_none, ends_by, seen_bytes, seen_starts, sends_as}
 use Rattle.deck_runs.proofs.jobs.conductors.conductor_job.Goals as goal
 
--- What is true of a form and disks is true of them told otherwise.
-told_as : (P : Form → List Disk → Type 0) (form told : Form) (disks other : List Disk) → told ≡ form → other ≡ disks → P form disks → P told other
-told_as P form told disks other same also h = subst (P told) (sym also) (subst (λ f. P f disks) (sym same) h)
+-- What is true of a form and plans is true of them told otherwise.
+told_as : (P : Form → Plans → Type 0) (form told : Form) (plans other : Plans) → told ≡ form → other ≡ plans → P form plans → P told other
+told_as P form told plans other same also h = subst (P told) (sym also) (subst (λ f. P f plans) (sym same) h)
 
 pub loop-k-init : goal.loop-k-init
 loop-k-init g c =
@@ -25,7 +24,8 @@ loop-k-init g c =
       publisher = publishes_none f;
       step = c.requires.step;
       count = let none : length f.batches ≡ length f.batches + 0 = omega arith in none;
-      aired = λ air is. sends_none c.args.pass.now.values air (batch_events f.batches) (batch_events f.batches) _ _ refl refl;
+      few = omega arith;
+      aired = λ air is. counts_none c.args.pass.now.values air (batch_events f.batches) (batch_events f.batches) _ _ refl refl;
       calm = refl;
       port = refl;
       buffer = refl;
@@ -50,9 +50,25 @@ pub conduct_cycle-requires-clause-airable : goal.conduct_cycle-requires-clause-a
 conduct_cycle-requires-clause-airable g c =
     let m = c.new-means in
     let values = on_values c.args.pass.now c.loop-k.pass c.loop-k.invariant.pass in
-    let can = told_as (λ form disks. CanAirIn form c.args.pass.now.values disks (length c.args.buf.now)) c.args.form m.result.form c.args.program.now m.result.program.now m.ensures.form m.ensures.program c.requires.airable in
-    subst (CanAirIn m.result.form c.loop-k.pass.values m.result.program.now) (sym c.loop-k.invariant.buffer)
-    (subst (λ v. CanAirIn m.result.form v m.result.program.now (length c.args.buf.now)) (sym values) can)
+    let can = told_as (λ form plans. CanAirIn form c.args.pass.now.values plans (length c.args.buf.now)) c.args.form m.result.form c.args.plans.now m.result.plans.now m.ensures.form m.ensures.plans c.requires.airable in
+    subst (CanAirIn m.result.form c.loop-k.pass.values m.result.plans.now) (sym c.loop-k.invariant.buffer)
+    (subst (λ v. CanAirIn m.result.form v m.result.plans.now (length c.args.buf.now)) (sym values) can)
+
+pub conduct_cycle-requires-clause-count : goal.conduct_cycle-requires-clause-count
+conduct_cycle-requires-clause-count g c =
+    let few = c.loop-k.invariant.few in
+    let next = c.loop-k-test.true in
+    let range = c.ranges.cycles in
+    omega arith
+
+pub overflow_add-sent : goal.overflow_add-sent
+overflow_add-sent g c =
+    let few = c.loop-k.invariant.few in
+    let more = c.in_ok-slots.ensures.slots in
+    let same = c.from-sent.ensures in
+    let next = c.loop-k-test.true in
+    let range = c.ranges.cycles in
+    omega arith
 
 pub loop-k-preserved : goal.loop-k-preserved
 loop-k-preserved g c =
@@ -64,14 +80,18 @@ loop-k-preserved g c =
     let values = on_values p c.loop-k.pass i.pass in
     let m = c.new-means.result in
     let cycle = c.conduct_cycle in
-    let ok = c.in_ok-conduct_cycle.ensures in
-    let one = subst (λ v. (air : Air) → IsAirOf v m.form (slots_of m.program.now) air → SendsCycles v air 1 (batch_events l.batches) (batch_events cycle.new.publisher.batches) (g.M.Mast.state c.loop-k.mast).told (g.M.Mast.state cycle.new.mast).told) values ok.aired in
+    let ok = c.in_ok-slots.ensures in
+    let more = c.in_ok-slots.slots in
+    let one = subst (λ v. (air : Air) → IsAirOf v m.form m.plans.now air → SendsCounted v air 1 more (batch_events l.batches) (batch_events cycle.new.publisher.batches) (g.M.Mast.state c.loop-k.mast).told (g.M.Mast.state cycle.new.mast).told) values ok.aired in
     record {
       pass = goes_further p q cycle.new.pass i.pass cycle.ensures.pass;
       publisher = publishes_further f l cycle.new.publisher i.publisher cycle.ensures.publisher;
       step = ok.done.0;
       count = let a = i.count in let b = ok.done.1 in omega arith;
-      aired = λ air is. sends_further p.values air c.loop-k.k 1 (batch_events f.batches) (batch_events l.batches) (batch_events cycle.new.publisher.batches) _ _ _ (i.aired air is) (one air is);
+      few = (let few = i.few in let slots = ok.slots in let same = c.from-sent.ensures in omega arith);
+      aired = λ air is.
+          let both = counts_further p.values air c.loop-k._k 1 c.loop-k.sent more (batch_events f.batches) (batch_events l.batches) (batch_events cycle.new.publisher.batches) _ _ _ (i.aired air is) (one air is) in
+          subst (λ n. SendsCounted p.values air (c.loop-k._k + 1) (c.loop-k.sent + n) (batch_events f.batches) (batch_events cycle.new.publisher.batches) (g.M.Mast.state c.args.mast.now).told (g.M.Mast.state cycle.new.mast).told) (sym c.from-sent.ensures) both;
       calm = ok.cause ∙ i.calm;
       port = cycle.ensures.port ∙ i.port;
       buffer = cycle.ensures.buffer ∙ i.buffer;
@@ -82,15 +102,15 @@ same_fault : {T E : Type 0} (e : E) (r : Result T E) → IsErrAnd r (λ y. y ≡
 same_fault e (Ok x) h = absurd h
 same_fault e (Err y) h = ap Err h
 
-pub returns-in_err-conduct_cycle-clause-pass : goal.returns-in_err-conduct_cycle-clause-pass
-returns-in_err-conduct_cycle-clause-pass g c = goes_further c.args.pass.now c.loop-k.pass c.conduct_cycle.new.pass c.loop-k.invariant.pass c.conduct_cycle.ensures.pass
+pub returns-in_err-slots-clause-pass : goal.returns-in_err-slots-clause-pass
+returns-in_err-slots-clause-pass g c = goes_further c.args.pass.now c.loop-k.pass c.conduct_cycle.new.pass c.loop-k.invariant.pass c.conduct_cycle.ensures.pass
 
-pub returns-in_err-conduct_cycle-clause-publisher : goal.returns-in_err-conduct_cycle-clause-publisher
-returns-in_err-conduct_cycle-clause-publisher g c = publishes_further c.args.publisher.now c.loop-k.publisher c.conduct_cycle.new.publisher c.loop-k.invariant.publisher c.conduct_cycle.ensures.publisher
+pub returns-in_err-slots-clause-publisher : goal.returns-in_err-slots-clause-publisher
+returns-in_err-slots-clause-publisher g c = publishes_further c.args.publisher.now c.loop-k.publisher c.conduct_cycle.new.publisher c.loop-k.invariant.publisher c.conduct_cycle.ensures.publisher
 
-pub returns-in_err-conduct_cycle-clause-few : goal.returns-in_err-conduct_cycle-clause-few
-returns-in_err-conduct_cycle-clause-few g c =
-    let more = c.in_err-conduct_cycle.ensures.few in
+pub returns-in_err-slots-clause-few : goal.returns-in_err-slots-clause-few
+returns-in_err-slots-clause-few g c =
+    let more = c.in_err-slots.ensures.few in
     let i = c.loop-k.invariant in
     let count = i.count in
     let first = c.requires.step.published.count in
@@ -98,8 +118,8 @@ returns-in_err-conduct_cycle-clause-few g c =
     let next = c.loop-k-test.true in
     rw (same_fault _ _ c.from_residual.ensures.1) (omega arith)
 
-pub returns-in_err-conduct_cycle-clause-aired : goal.returns-in_err-conduct_cycle-clause-aired
-returns-in_err-conduct_cycle-clause-aired g c = rw (same_fault _ _ c.from_residual.ensures.1) (λ air is.
+pub returns-in_err-slots-clause-aired : goal.returns-in_err-slots-clause-aired
+returns-in_err-slots-clause-aired g c = rw (same_fault _ _ c.from_residual.ensures.1) (λ air is.
     let i = c.loop-k.invariant in
     let state = g.M.Mast.state in
     let p = c.args.pass.now in
@@ -107,17 +127,16 @@ returns-in_err-conduct_cycle-clause-aired g c = rw (same_fault _ _ c.from_residu
     let l = c.loop-k.publisher in
     let h = c.conduct_cycle.new.publisher in
     let now = c.conduct_cycle.new.mast in
-    let fault = c.in_err-conduct_cycle.field-0.0 in
+    let fault = c.in_err-slots.field-0.0 in
     let m = c.new-means in
-    let slots = slots_of m.result.program.now in
-    let told = told_as (λ form disks. IsAirOf p.values form (slots_of disks) air) c.args.form m.result.form c.args.program.now m.result.program.now m.ensures.form m.ensures.program is in
+    let told = told_as (λ form plans. IsAirOf p.values form plans air) c.args.form m.result.form c.args.plans.now m.result.plans.now m.ensures.form m.ensures.plans is in
     let values = on_values p c.loop-k.pass i.pass in
-    let cycle = subst (λ v. (air : Air) → IsAirOf v m.result.form slots air → SendsInCycle state v air (c.loop-k.k * length slots) (batch_events l.batches) (batch_events h.batches) c.loop-k.mast now fault) values c.in_err-conduct_cycle.ensures.aired in
-    ends_by p.values air state fault c.loop-k.k c.args.cycles (length slots) c.loop-k-test.true (λ at. ap length (told.slots_are at)) p c.conduct_cycle.new.pass f l h c.args.mast.now c.loop-k.mast now (i.aired air told) i.calm i.port
-    c.requires.step.published c.in_err-conduct_cycle.ensures.published (cycle air told))
+    let cycle = subst (λ v. (air : Air) → IsAirOf v m.result.form m.result.plans.now air → SendsInCycle state v air c.loop-k.sent (batch_events l.batches) (batch_events h.batches) c.loop-k.mast now fault) values c.in_err-slots.ensures.aired in
+    ends_by p.values air state fault c.loop-k._k c.args.cycles c.loop-k.sent c.loop-k-test.true p c.conduct_cycle.new.pass f l h c.args.mast.now c.loop-k.mast now (i.aired air told) i.calm i.port
+    c.requires.step.published c.in_err-slots.ensures.published (cycle air told))
 
-pub returns-in_err-conduct_cycle-clause-cause : goal.returns-in_err-conduct_cycle-clause-cause
-returns-in_err-conduct_cycle-clause-cause g c = rw (same_fault _ _ c.from_residual.ensures.1) (subst (λ n. IsCause n (g.M.Mast.state c.conduct_cycle.new.mast).faults c.in_err-conduct_cycle.field-0.0) c.loop-k.invariant.calm c.in_err-conduct_cycle.ensures.cause)
+pub returns-in_err-slots-clause-cause : goal.returns-in_err-slots-clause-cause
+returns-in_err-slots-clause-cause g c = rw (same_fault _ _ c.from_residual.ensures.1) (subst (λ n. IsCause n (g.M.Mast.state c.conduct_cycle.new.mast).faults c.in_err-slots.field-0.0) c.loop-k.invariant.calm c.in_err-slots.ensures.cause)
 
 pub returns : goal.returns
 returns g c =
@@ -127,7 +146,7 @@ returns g c =
     let f = c.args.publisher.now in
     let l = c.loop-k.publisher in
     let m = c.new-means in
-    let all : c.loop-k.k ≡ c.args.cycles = omega arith in
+    let all : c.loop-k._k ≡ c.args.cycles = omega arith in
     let started : starts q.seen ≡ starts p.seen + c.args.cycles = let a = i.step.published.count in let b = i.count in let d = c.requires.step.published.count in omega arith in
     record {
       pass = i.pass;
@@ -137,10 +156,10 @@ returns g c =
       few = tt;
       published = tt;
       aired = λ air is.
-          let told = told_as (λ form disks. IsAirOf p.values form (slots_of disks) air) c.args.form m.result.form c.args.program.now m.result.program.now m.ensures.form m.ensures.program is in
+          let told = told_as (λ form plans. IsAirOf p.values form plans air) c.args.form m.result.form c.args.plans.now m.result.plans.now m.ensures.form m.ensures.plans is in
           subst (λ n. SendsCycles p.values air n p.seen q.seen (g.M.Mast.state c.args.mast.now).told (g.M.Mast.state c.loop-k.mast).told) all
-          (sends_as p.values air c.loop-k.k (batch_events f.batches) (batch_events l.batches) p.seen q.seen _ _ (seen_bytes p.values air p.seen f.batches c.requires.step.published) (seen_bytes p.values air q.seen l.batches i.step.published)
-          (seen_starts p.seen f.batches c.requires.step.published) (seen_starts q.seen l.batches i.step.published) (i.aired air told));
+          (sends_as p.values air c.loop-k._k (batch_events f.batches) (batch_events l.batches) p.seen q.seen _ _ (seen_bytes p.values air p.seen f.batches c.requires.step.published) (seen_bytes p.values air q.seen l.batches i.step.published)
+          (seen_starts p.seen f.batches c.requires.step.published) (seen_starts q.seen l.batches i.step.published) (i.aired air told).sends);
       cause = i.calm;
       port = i.port;
       buffer = i.buffer;

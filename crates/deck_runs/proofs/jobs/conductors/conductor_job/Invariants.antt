@@ -1,20 +1,22 @@
-use Rattle.std.proofs.Common.{◌≡◌, ◌+◌, length}
-use Rattle.air_model.specs.Programs.{program as slots_of}
+use Rattle.std.proofs.Common.{◌≡◌, ◌+◌, ◌*◌, ◌≤◌, length}
+use Rattle.air_base.specs.declared.limits.TheConstants.{MOST_SLOTS}
 use Rattle.air_model.specs.Aired.{Air}
 use Rattle.cycle_snapshot.specs.Batches.{batch_events}
 use Rattle.deck_runs.specs.PublishedBatches.{AreInStep, GoesOn, PublishesOn}
-use Rattle.deck_runs.specs.Sendings.{IsAirOf, SendsCycles}
+use Rattle.deck_runs.specs.Sendings.{IsAirOf}
+use Rattle.deck_runs.specs.Private.CycleSteps.{SendsCounted}
 use Rattle.deck_runs.proofs.jobs.conductors.conductor_job.Given as goal
 
--- So many cycles were conducted.
+-- So many cycles were conducted, and sent so many buckets.
 abbrev pub invariant-loop-k : goal.invariant-loop-k
 invariant-loop-k g l = record {
   pass : GoesOn l.initial.pass l.pass;
   publisher : PublishesOn l.initial.publisher l.publisher;
   step : AreInStep l.pass l.publisher l.board;
-  count : length l.publisher.batches ≡ length l.initial.publisher.batches + l.k;
-  aired : (air : Air) → IsAirOf l.initial.pass.values l.means.form (slots_of l.means.program.now) air →
-      SendsCycles l.initial.pass.values air l.k (batch_events l.initial.publisher.batches) (batch_events l.publisher.batches) (g.M.Mast.state l.initial.mast).told (g.M.Mast.state l.mast).told;
+  count : length l.publisher.batches ≡ length l.initial.publisher.batches + l._k;
+  few : l.sent ≤ MOST_SLOTS * l._k;
+  aired : (air : Air) → IsAirOf l.initial.pass.values l.means.form l.means.plans.now air →
+      SendsCounted l.initial.pass.values air l._k l.sent (batch_events l.initial.publisher.batches) (batch_events l.publisher.batches) (g.M.Mast.state l.initial.mast).told (g.M.Mast.state l.mast).told;
   calm : (g.M.Mast.state l.mast).faults ≡ (g.M.Mast.state l.initial.mast).faults;
   port : (g.M.Mast.state l.mast).port ≡ (g.M.Mast.state l.initial.mast).port;
   buffer : length l.buf ≡ length l.initial.buf;

@@ -1,9 +1,10 @@
-use Rattle.std.proofs.Common.{◌≡◌, ◌+◌, ◌*◌, ◌<◌, ◌∙◌, length, ap, arith, sym, subst}
+use Rattle.std.proofs.Common.{◌≡◌, ◌+◌, ◌∙◌, Some, length, slice_get, ap, arith, refl, sym, subst}
 use Rattle.air_history.specs.Histories.{starts}
 use Rattle.air_model.specs.Programs.{program as slots_of}
+use Rattle.chunk_program.specs.Editions.{planned_edition}
 use Rattle.deck_runs.specs.PublishedBatches.{PublishesOn}
 use Rattle.deck_runs.proofs.CycleLemmas.{at_fault, few_starts, one_start, publishes_batch, publishes_none}
-use Rattle.deck_runs.proofs.SendLemmas.{cycle_failed_by, cycle_sent, few_sent, front, last_board, rose_by, within_cycle}
+use Rattle.deck_runs.proofs.SendLemmas.{cycle_failed_by, cycle_sent, front, last_board, rose_by, within_cycle}
 use Rattle.deck_runs.proofs.jobs.cycles.conduct_cycle.Goals as goal
 
 pub returns-in-Ok-clause-aired : goal.returns-in-Ok-clause-aired
@@ -16,19 +17,25 @@ returns-in-Ok-clause-aired g c = λ air is.
     let board = c.begin_cycle.new.board in
     let on = c.begin_cycle.ensures.pass in
     let form = c.args.means.now.form in
-    let slots = slots_of c.args.means.now.program.now in
-    cycle_sent p q f h board on b.0 b.1 air form slots is _ _ (c.in-Ok.ensures.history p.values air (front p q f h board on b.0 b.1) (last_board p q f h board on b.0 b.1 air form slots is))
+    let plans = c.args.means.now.plans.now in
+    let own = c.in_force-program.result.now in
+    let at = subst (λ n. slice_get plans.programs (planned_edition plans n) ≡ Some own) c.cycle.ensures.found c.in_force-program.ensures.told in
+    cycle_sent p q f h board on b.0 b.1 air form plans own is at c.slots-slots.result _ _ c.slots-slots.ensures.counted
+    (c.in-Ok.ensures.history p.values air (front p q f h board on b.0 b.1) (last_board p q f h board on b.0 b.1 air form plans own is at))
+
+pub air_cycle-requires-clause-items : goal.air_cycle-requires-clause-items
+air_cycle-requires-clause-items g c =
+    c.in_force-program.ensures.items (length c.args.pass.now.values) c.requires.airable.items ∙ sym c.in_ok-begin_cycle.ensures.sized
 
 pub overflow_add-sent : goal.overflow_add-sent
 overflow_add-sent g c =
+    let own = c.in_force-program.result.now in
     let inside =
-    within_cycle g.M.Mast.state c.args.means.now.form (slots_of c.args.means.now.program.now) c.begin_cycle.new.board _ c.from-slot.result c.args.mast.now c.air_cycle.new.mast (c.from-slot.ensures ∙ c.slot_of.ensures) c.in-Err.ensures.fault in
-    let most = c.slots.ensures.few in
-    let counted = c.slots.ensures.counted in
-    let same = c.from-slots.ensures in
-    let cycles : c.from.result < 4294967296 = let at = c.from.ensures in let range = c.ranges.before in omega arith in
-    let bound = few_sent c.from.result c.from-slots.result c.from-slot.result cycles (omega arith) (omega arith) in
-    omega (arith, bound)
+    within_cycle g.M.Mast.state c.args.means.now.form own.edition (slots_of own.disks) c.begin_cycle.new.board _ c.from-slot.result c.args.mast.now c.air_cycle.new.mast (c.from-slot.ensures ∙ c.slot_of.ensures) c.in-Err.ensures.fault in
+    let most = c.slots-slots.ensures.few in
+    let counted = c.slots-slots.ensures.counted in
+    let room = c.requires.count in
+    omega arith
 
 pub returns-in-Err-clause-aired : goal.returns-in-Err-clause-aired
 returns-in-Err-clause-aired g c = λ air is.
@@ -40,12 +47,13 @@ returns-in-Err-clause-aired g c = λ air is.
     let board = c.begin_cycle.new.board in
     let on = c.begin_cycle.ensures.pass in
     let form = c.args.means.now.form in
-    let slots = slots_of c.args.means.now.program.now in
-    let whole : c.from.result * c.from-slots.result ≡ c.args.before * length slots = ap (λ k. k * c.from-slots.result) c.from.ensures ∙ ap (λ n. c.args.before * n) (c.from-slots.ensures ∙ c.slots.ensures.counted) in (
+    let plans = c.args.means.now.plans.now in
+    let own = c.in_force-program.result.now in
+    let at = subst (λ n. slice_get plans.programs (planned_edition plans n) ≡ Some own) c.cycle.ensures.found c.in_force-program.ensures.told in (
       c.from-slot.result,
-      ap (λ n. n + c.from-slot.result) whole,
-      cycle_failed_by p q f h board on b.0 b.1 air form slots is g.M.Mast.state _ c.from-slot.result c.args.mast.now c.air_cycle.new.mast (c.from-slot.ensures ∙ c.slot_of.ensures)
-          (c.in-Err.ensures.history p.values air (front p q f h board on b.0 b.1) (last_board p q f h board on b.0 b.1 air form slots is)) c.in-Err.ensures.fault,
+      refl,
+      cycle_failed_by p q f h board on b.0 b.1 air form plans own is at g.M.Mast.state _ c.from-slot.result c.args.mast.now c.air_cycle.new.mast (c.from-slot.ensures ∙ c.slot_of.ensures)
+          (c.in-Err.ensures.history p.values air (front p q f h board on b.0 b.1) (last_board p q f h board on b.0 b.1 air form plans own is at)) c.in-Err.ensures.fault,
     )
 
 pub returns-in-Err-clause-few : goal.returns-in-Err-clause-few

@@ -13,7 +13,7 @@ use Rattle.receiver_core.proofs.HeldCalls.{ends}
 use Rattle.receiver_core.proofs.receivers.Receiver.end.Goals as goal
 
 pub drop_all-requires-clause-numbers : goal.drop_all-requires-clause-numbers
-drop_all-requires-clause-numbers c = ap length (c.self.invariant.cache.pix 0) ∙ c.self.invariant.deck.numbers 0 ∙ sym c.items.ensures
+drop_all-requires-clause-numbers c = ap length c.self.invariant.cache.pix ∙ c.self.invariant.deck.numbers c.self.inside.latest ∙ sym c.items.ensures
 
 pub drop_all-requires-clause-within : goal.drop_all-requires-clause-within
 drop_all-requires-clause-within c = λ i d l. let below = (c.self.invariant.cache.copies i d l).within in let all = c.items.ensures in omega arith

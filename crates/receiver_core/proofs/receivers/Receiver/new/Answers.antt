@@ -9,7 +9,7 @@ use Rattle.receiver_core.proofs.receivers.Receiver.new.Goals as goal
 
 pub new-requires-4-clause-items : goal.new-requires-4-clause-items
 new-requires-4-clause-items c =
-    let same = ap length (c.pix.ensures 0) in
+    let same = ap length c.pix.ensures in
     let long = c.in_ok-air.ensures.numbers 0 in
     let few = c.in_ok-air.ensures.few in
     omega arith
@@ -28,7 +28,7 @@ invariant_of-result c =
       };
       cache = record {
         room = ap (λ (t : Cache). t.room) c.in_ok-copies.ensures ∙ c.room.ensures;
-        pix = λ k. ap (λ (t : Cache). t.pix) c.in_ok-copies.ensures ∙ c.pix.ensures k;
+        pix = ap (λ (t : Cache). t.pix) c.in_ok-copies.ensures ∙ c.pix.ensures;
         copies = subst (λ R. All (IsWholeRead n) R) (sym (ap (λ (t : Cache). t.copies) c.in_ok-copies.ensures)) (All-nil (IsWholeRead n));
       };
       held = search rules;

@@ -84,7 +84,7 @@ invariant_of-self c =
     let a = (goal.at.invariant_of-self c).After-is_far in
     record {
       deck = k.deck;
-      cache = offered r.air r.reader r.copies c.keep.new.self None (told a) k.cache (told_whole a) c.keep.ensures.kept;
+      cache = offered r.air r.reader r.latest r.copies c.keep.new.self None (told a) k.cache (told_whole a) c.keep.ensures.kept;
       held = k.held;
       few = k.few;
       column = sym (with_items r.column c.fill.new.out).ok.0 ∙ r.column.ok.0 ∙ k.column;
@@ -116,7 +116,7 @@ invariant_of-self-in-None c =
     let x = told a in
     record {
       deck = k.deck;
-      cache = offered r.air r.reader r.copies c.offer.new.copies c.try_hold-clash.result x k.cache (told_whole a) c.offer.ensures;
+      cache = offered r.air r.reader r.latest r.copies c.offer.new.copies c.try_hold-clash.result x k.cache (told_whole a) c.offer.ensures;
       held = more_held r c.try_hold-clash.new.self x k c.in-None.ensures.held (ap (λ (v : Receiver). wanted v.reader v.state) c.self.view_is ∙ c.requires.wanted ∙ ap Some (sym c.item-item.ensures));
       few = few_opened r c.try_hold-clash.new.self x k c.in-None.ensures.held;
       column = sym (with_items r.column c.fill.new.out).ok.0 ∙ r.column.ok.0 ∙ k.column;
@@ -147,7 +147,7 @@ invariant_of-self-in-Some c =
     let x = told a in
     record {
       deck = k.deck;
-      cache = offered r.air r.reader r.copies c.offer.new.copies c.try_hold-clash.result x k.cache (told_whole a) c.offer.ensures;
+      cache = offered r.air r.reader r.latest r.copies c.offer.new.copies c.try_hold-clash.result x k.cache (told_whole a) c.offer.ensures;
       held = same_held r c.try_hold-clash.new.self k c.in-Some.ensures.held;
       few = few_same r c.try_hold-clash.new.self k c.in-Some.ensures.held;
       column = sym (with_items r.column c.fill.new.out).ok.0 ∙ r.column.ok.0 ∙ k.column;

@@ -50,7 +50,7 @@ invariant_of-self c =
     let k = c.self.invariant in
     record {
       deck = k.deck;
-      cache = dropped_one r.air r.reader r.copies c.drop_copy.new.self c.in-Some.item k.cache c.drop_copy.ensures;
+      cache = dropped_one r.air r.reader r.latest r.copies c.drop_copy.new.self c.in-Some.item k.cache c.drop_copy.ensures;
       held = k.held;
       few = k.few;
       column = k.column;
@@ -122,7 +122,7 @@ invariant_of-self-in-Some-try_hold c =
     let k = c.self.invariant in
     record {
       deck = k.deck;
-      cache = dropped_one r.air r.reader r.copies c.drop_copy-in-Some-try_hold.new.self c.in-Some.item k.cache c.drop_copy-in-Some-try_hold.ensures;
+      cache = dropped_one r.air r.reader r.latest r.copies c.drop_copy-in-Some-try_hold.new.self c.in-Some.item k.cache c.drop_copy-in-Some-try_hold.ensures;
       held = same_held r c.try_hold.new.self k c.in-Some-try_hold.ensures.held;
       few = few_same r c.try_hold.new.self k c.in-Some-try_hold.ensures.held;
       column = k.column;

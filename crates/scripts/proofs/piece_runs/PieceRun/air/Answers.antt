@@ -2,11 +2,11 @@ use Rattle.std.proofs.Common.{◌≡◌, ◌*◌, ◌++◌, ◌∷◌, [], ◌�
 use Rattle.std.proofs.lemmas.List.{append_assoc}
 use Rattle.air_base.specs.declared.verdicts.Form.{Form}
 use Rattle.air_model.specs.Buckets.{entry_len}
-use Rattle.air_model.specs.Decks.{values_in}
-use Rattle.air_model.specs.Disks.{all_items}
+use Rattle.air_model.specs.Decks.{edition, values_in}
 use Rattle.air_sender.specs.BoardBuckets.{EntriesBelow, board_bytes}
 use Rattle.air_model.specs.Programs.{program}
 use Rattle.air_devices.specs.Masts.{SentBuckets}
+use Rattle.chunk_program.specs.Editions.{HaveItems, Plans, edition_disks}
 use Rattle.air_sender.specs.TapeMasts.{told_by_tape}
 use Rattle.air_sender.proofs.AiredLemmas.{board_started, commit_aired, few_full, start_aired, started_board, told_alike, values_kept}
 use Rattle.scripts.proofs.piece_runs.PieceRun.air.Goals as goal
@@ -28,7 +28,8 @@ air_cycle-requires-clause-below c =
 
 pub air_cycle-requires-clause-items : goal.air_cycle-requires-clause-items
 air_cycle-requires-clause-items c =
-    ap (λ disks. length (all_items disks)) c.program.ensures.told ∙ c.program.ensures.items
+    let n = length c.args.planned.now.items in
+    c.in_force-program.ensures.items n (subst (λ (p : Plans). HaveItems n p.programs) (sym c.plans.ensures.told) c.plans.ensures.items)
     ∙ sym (values_kept c.args.planned.now c.args.self.now.board (c.args.self.now.events.items ++ c.args.event.now ∷ []) c.requires.stepped)
 
 pub air_cycle-requires-clause-few : goal.air_cycle-requires-clause-few
@@ -51,7 +52,9 @@ returns-in-Ok-clause-aired c = λ before so_far.
     let s = c.args.self.now in
     let old = (told_by_tape c.args.piece.now).buckets in
     let sent = ap (λ (t : SentBuckets). t.buckets) (told_alike c.in-Ok.ensures.aired) in
-    let cycle = board_bytes c.own_form.result 0 (program c.program.result.now) s.board in
+    let own = c.in_force-program.result.now in
+    let in_force = c.in_force-program.ensures.deck c.args.planned.now c.plans.ensures.told ∙ ap (λ n. edition_disks c.args.planned.now (edition c.args.planned.now n)) c.cycle.ensures.found in
+    let cycle = board_bytes c.own_form.result own.edition (program own.disks) s.board in
     let grew = ap (λ l. before ++ l) sent ∙ sym (append_assoc before old cycle) in
     sym (start_aired c.args.planned.now s.events.items c.args.event.now s.board c.requires.stepped c.own_cycle_law.ensures c.shows_planned.ensures.made (sym c.if-not-is_start.ensures)
-    c.own_form.result c.program.result.now (before ++ old) (before ++ (told_by_tape c.air_cycle.new.mast).buckets) c.own_form.ensures.form c.program.ensures.told (sym so_far) grew)
+    c.own_form.result own (before ++ old) (before ++ (told_by_tape c.air_cycle.new.mast).buckets) c.own_form.ensures.form in_force (sym so_far) grew)

@@ -1,16 +1,16 @@
-use Rattle.std.proofs.Common.{◌*◌, length, sym, ◌∙◌, ap, subst}
-use Rattle.air_base.specs.declared.verdicts.Form.{Form}
-use Rattle.air_model.specs.Decks.{Deck, disks_in}
-use Rattle.air_model.specs.Disks.{all_items}
-use Rattle.air_model.specs.Programs.{program as slots_of}
-use Rattle.air_sender.specs.TapeSizes.{cycle_size}
+use Rattle.std.proofs.Common.{◌*◌, sym, ◌∙◌, ap, subst, arith}
+use Rattle.std.proofs.lemmas.Nat.{mul-le}
 use Rattle.listeners.specs.Hearings.{AreHearing}
 use Rattle.scripts.proofs.TapePieceLemmas.{no_tape, nothing_aired}
 use Rattle.scripts.proofs.script_airing.ScriptAiring.new.Goals as goal
 
-pub tape_bytes-requires-clause-items : goal.tape_bytes-requires-clause-items
-tape_bytes-requires-clause-items c =
-    c.items-items.ensures.told ∙ ap (λ (d : Deck). length d.items) c.deck.ensures.told ∙ sym (ap (λ disks. length (all_items disks)) c.program.ensures.told ∙ c.program.ensures.items)
+pub overflow_mul-bytes : goal.overflow_mul-bytes
+overflow_mul-bytes c =
+    let few = c.longest_cycle.ensures.few in
+    let same = c.from.ensures in
+    let range = c.ranges.cycles in
+    let all = mul-le c.from.result c.longest_cycle.result 4294967296 67567616 (omega arith) (omega arith) in
+    omega arith
 
 pub returns-clause-kept : goal.returns-clause-kept
 returns-clause-kept c =
@@ -26,8 +26,4 @@ pub returns-clause-nothing : goal.returns-clause-nothing
 returns-clause-nothing c = no_tape c.args.planned.now c.in_ok-new.field-0.events.items c.in_ok-new.ensures.empty
 
 pub returns-clause-room : goal.returns-clause-room
-returns-clause-room c =
-    c.in_ok-new-3.ensures.room ∙ c.tape_bytes.ensures
-    ∙ ap (λ disks. c.args.cycles * cycle_size c.own_form-form.result.version c.items-items.result (slots_of disks)) c.program.ensures.told
-    ∙ ap (λ n. c.args.cycles * cycle_size c.own_form-form.result.version n (slots_of (disks_in c.args.planned.now 0))) (c.items-items.ensures.told ∙ ap (λ (d : Deck). length d.items) c.deck.ensures.told)
-    ∙ ap (λ (f : Form). c.args.cycles * cycle_size f.version (length c.args.planned.now.items) (slots_of (disks_in c.args.planned.now 0))) c.own_form-form.ensures.form
+returns-clause-room c = c.in_ok-new-3.ensures.room ∙ ap (λ k. k * c.longest_cycle.result) c.from.ensures ∙ ap (λ n. c.args.cycles * n) c.longest_cycle.ensures.told

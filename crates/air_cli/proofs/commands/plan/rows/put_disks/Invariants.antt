@@ -9,4 +9,4 @@ use Rattle.air_cli.proofs.commands.plan.rows.put_disks.Given as goal
 
 abbrev pub invariant-loop-d : goal.invariant-loop-d
 invariant-loop-d l =
-    IsRowWriter l.wtr × (written_text l.wtr ≡ written_text l.fn.wtr ++ rows_text (map (disk_row (num_minors (disks_in l.planned 0))) (take l.d (enumerate_from 0 (disks_in l.planned 0)))))
+    IsRowWriter l.wtr × (written_text l.wtr ≡ written_text l.fn.wtr ++ rows_text (map (disk_row (num_minors (disks_in l.planned l.edition))) (take l.d (enumerate_from 0 (disks_in l.planned l.edition)))))

@@ -18,7 +18,7 @@ put_item-requires-clause-item c = omega (arith, ap (λ (d : Deck). length d.item
 pub loop-i-preserved : goal.loop-i-preserved
 loop-i-preserved c = (
   c.in_ok-wtr.ensures.ready,
-  items_more (disks_in c.args.planned.now 0) c.args.planned.now c.loop-i.i (written_text c.args.wtr) (written_text c.loop-i.wtr) (written_text c.in_ok-wtr.wtr)
+  items_more (disks_in c.args.planned.now c.args.edition) c.args.planned.now c.loop-i.i (written_text c.args.wtr) (written_text c.loop-i.wtr) (written_text c.in_ok-wtr.wtr)
       (omega (arith, ap (λ (d : Deck). length d.items) c.deck-deck.ensures.told, c.items-i-end.ensures.told)) c.loop-i.invariant.1 c.in_ok-wtr.ensures.text,
 )
 
@@ -26,5 +26,5 @@ pub returns-clause-text : goal.returns-clause-text
 returns-clause-text c =
     let d = c.args.planned.now in
     let rates = rates_in d in
-    all_rows (item_row (disks_in d 0)) (enumerate_from 0 rates) c.loop-i.i (written_text c.args.wtr) (written_text c.loop-i.wtr)
+    all_rows (item_row (disks_in d c.args.edition)) (enumerate_from 0 rates) c.loop-i.i (written_text c.args.wtr) (written_text c.loop-i.wtr)
     (omega (arith, length-enumerate_from 0 rates, length-map d.items (λ item. item.rate), ap (λ (d : Deck). length d.items) c.deck-deck.ensures.told, c.items-i-end.ensures.told)) c.loop-i.invariant.1

@@ -8,4 +8,4 @@ use Rattle.air_cli.proofs.commands.plan.rows.put_items.Given as goal
 
 abbrev pub invariant-loop-i : goal.invariant-loop-i
 invariant-loop-i l =
-    IsRowWriter l.wtr × (written_text l.wtr ≡ written_text l.fn.wtr ++ rows_text (map (item_row (disks_in l.planned 0)) (take l.i (enumerate_from 0 (rates_in l.planned)))))
+    IsRowWriter l.wtr × (written_text l.wtr ≡ written_text l.fn.wtr ++ rows_text (map (item_row (disks_in l.planned l.edition)) (take l.i (enumerate_from 0 (rates_in l.planned)))))

@@ -13,7 +13,7 @@ loop-k-init c = (c.requires, rows_none (written_text c.args.wtr))
 
 pub loop-k-preserved : goal.loop-k-preserved
 loop-k-preserved c =
-    let disks = c.args.program.now in (
+    let disks = c.args.program.now.disks in (
       c.in_ok-wtr.ensures.ready,
       minors_more disks (num_minors disks) c.loop-k.k (written_text c.args.wtr) (written_text c.loop-k.wtr) (written_text c.in_ok-wtr.wtr)
           (omega (arith, c.minors-k-end.ensures)) c.loop-k.invariant.1 c.in_ok-wtr.ensures.text,
@@ -21,6 +21,6 @@ loop-k-preserved c =
 
 pub returns-clause-text : goal.returns-clause-text
 returns-clause-text c =
-    let disks = c.args.program.now in
+    let disks = c.args.program.now.disks in
     all_rows (minor_row disks) (range_with_len 0 (num_minors disks)) c.loop-k.k (written_text c.args.wtr) (written_text c.loop-k.wtr)
     (omega (arith, length-range_with_len 0 (num_minors disks), c.minors-k-end.ensures)) c.loop-k.invariant.1

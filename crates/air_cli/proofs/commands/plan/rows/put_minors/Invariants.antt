@@ -8,4 +8,4 @@ use Rattle.air_cli.proofs.commands.plan.rows.put_minors.Given as goal
 
 abbrev pub invariant-loop-k : goal.invariant-loop-k
 invariant-loop-k l =
-    IsRowWriter l.wtr × (written_text l.wtr ≡ written_text l.fn.wtr ++ rows_text (map (minor_row l.program) (take l.k (range_with_len 0 (num_minors l.program)))))
+    IsRowWriter l.wtr × (written_text l.wtr ≡ written_text l.fn.wtr ++ rows_text (map (minor_row l.program.disks) (take l.k (range_with_len 0 (num_minors l.program.disks)))))

@@ -10,7 +10,7 @@ use Rattle.air_cli.proofs.commands.plan.rows.slots_text.Goals.{then-j-gt0+in_ok-
 
 pub loop-j-preserved : goal.loop-j-preserved
 loop-j-preserved c =
-    let disks = c.args.program.now in
+    let disks = c.args.program.now.disks in
     let slots = minor_cycle (num_minors disks) disks c.args.k in
     let j = c.loop-j.j in
     let below : j < length slots = omega (arith, c.minor_len-j-end.ensures, length_minor (num_minors disks) disks c.args.k) in
@@ -27,6 +27,6 @@ loop-j-preserved c =
 
 pub returns : goal.returns
 returns c =
-    let disks = c.args.program.now in
+    let disks = c.args.program.now.disks in
     let slots = minor_cycle (num_minors disks) disks c.args.k in
     c.loop-j.invariant ∙ ap (λ s. list_text (map slot_text s)) (take_all c.loop-j.j slots (omega (arith, c.minor_len-j-end.ensures, length_minor (num_minors disks) disks c.args.k)))

@@ -5,4 +5,4 @@ use Rattle.air_model.specs.PlanTexts.{slot_text}
 use Rattle.air_cli.proofs.commands.plan.rows.slots_text.Given as goal
 
 abbrev pub invariant-loop-j : goal.invariant-loop-j
-invariant-loop-j l = l.text.items ≡ list_text (map slot_text (take l.j (minor_cycle (num_minors l.program) l.program l.k)))
+invariant-loop-j l = l.text.items ≡ list_text (map slot_text (take l.j (minor_cycle (num_minors l.program.disks) l.program.disks l.k)))

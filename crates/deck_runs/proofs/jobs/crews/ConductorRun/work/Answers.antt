@@ -2,12 +2,11 @@ use Rattle.std.proofs.Common.{◌≡◌, ◌∙◌, length, ap, arith}
 use Rattle.air_history.specs.Histories.{starts}
 use Rattle.air_model.specs.declared.deck.Settings.{Settings}
 use Rattle.air_model.specs.Decks.{Deck, values_in}
-use Rattle.air_model.specs.Disks.{all_items}
 use Rattle.station.specs.PassStates.{PassState}
 use Rattle.cycle_snapshot.specs.SnapshotStates.{PublisherState}
 use Rattle.update_commit.proofs.EventLemmas.{starts_none}
 use Rattle.deck_runs.specs.Private.StageSteps.{HasAired}
-use Rattle.deck_runs.proofs.RunLemmas.{can_air, new_in_step, no_replans, own_air, run_aired, run_batches, run_few, run_whole, values_sized}
+use Rattle.deck_runs.proofs.RunLemmas.{can_air, new_in_step, own_air, run_aired, run_batches, run_few, run_whole, values_sized}
 use Rattle.deck_runs.proofs.SentLemmas.{run_answer}
 use Rattle.deck_runs.proofs.jobs.crews.ConductorRun.work.Goals as goal
 
@@ -36,7 +35,7 @@ conductor_job-requires-clause-airable g c =
     let values = ap (λ (p : PassState). length p.values) c.requires.ready.pass ∙ values_sized deck in
     let size = ap length c.deref_mut.ensures.value in
     let room = c.requires.ready.buffer in
-    can_air deck _ _ _ _ c.deck.ensures.made c.own_form.ensures.form values (ap (λ disks. length (all_items disks)) c.program.ensures.told ∙ c.program.ensures.items) (omega arith)
+    can_air deck _ _ _ _ c.deck.ensures.made c.own_form.ensures.form values c.plans.ensures.told c.plans.ensures.items (omega arith)
 
 pub returns : goal.returns
 unfolding HasAired
@@ -52,7 +51,7 @@ returns g c =
     let empty = ap (λ (f : PublisherState). f.batches) c.requires.publisher in
     let settings_are : c.settings-settings.result ≡ c.args.planned.now.settings = c.settings-settings.ensures ∙ ap (λ (d : Deck). d.settings) c.deck.ensures.told in
     let cycles = ap (λ (s : Settings). s.cycles) settings_are in
-    let is = own_air deck c.program.result.now p.values c.own_form.result (no_replans deck c.deck.ensures.made) c.program.ensures.told values c.own_form.ensures.form in
+    let is = own_air deck c.plans.result.now p.values c.own_form.result c.plans.ensures.told values c.own_form.ensures.form in
     let aired = run_aired state deck p new.pass c.args.publisher.now new.publisher _ c.args.mast.now new.mast values none empty result (e.aired _ is) in
     record {
       pass = e.pass;

@@ -16,6 +16,8 @@ invariant_of-self-2 c =
     record {
       items = inv.items;
       disks = inv.disks;
+      replans = inv.replans;
+      replan = inv.replan;
       updates = length-set c.self.inside.updates.items c.in_ok-by.by c.push.new.self ∙ inv.updates;
       updaters = omega (arith, c.max-self-inside.ensures, t.updater, inv.updaters);
       update_count = omega (arith, t.few);
