@@ -112,9 +112,10 @@ local function add_entries(tree, bytes)
     if at < bytes:len() then tree:add(fields.rest, bytes(at)) end
 end
 
--- What a bucket says, in a few words; idle buckets have no item
+-- What a bucket says, in a few words; idle buckets have no item, and of edition 0 nothing is said
 local function brief(bytes)
-    local place = "cycle " .. bytes(8, 4):uint() .. ", slot " .. bytes(12, 2):uint()
+    local edition = bytes(4, 2):uint()
+    local place = (edition == 0 and "" or "edition " .. edition .. ", ") .. "cycle " .. bytes(8, 4):uint() .. ", slot " .. bytes(12, 2):uint()
     local kind = bytes(3, 1):uint()
     if kind == IDLE then return place .. ": idle" end
     return place .. ": item " .. bytes(14, 2):uint() .. " = " .. tostring(bytes(16, 8):uint64()) .. " (" .. kinds[kind] .. ")"

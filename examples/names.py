@@ -99,7 +99,7 @@ class Names:
 
 # The lines of a plan, of a report and of an audit
 READS = r"(\d+@\d+=\d+( \d+@\d+=\d+)*)?"
-LINES = re.compile(r"program(,\d+){3}|disk(,\d+){4}|minor,\d+,(\d+|-)( (\d+|-))*|item(,\d+){6}|start|commit(,\d+){2}"
+LINES = re.compile(r"replan(,\d+){2}|program(,\d+){3}|disk(,\d+){4}|minor,\d+,(\d+|-)( (\d+|-))*|item(,\d+){6}|start|commit(,\d+){2}"
                    rf"|(accept|unfinished)(,\d+){{3}},{READS}|abort(,\d+){{3}},{READS},\d+@\d+,\d+"
                    rf"|aged(,\d+){{3}},{READS},\d+@\d+|counts(,\d+){{7}}|(glance|look)(,\d+){{3}}"
                    r"|fault(,\d+)+|drill(,\d+){11}|agrees,\d+|differs,\d+,[a-z]+|audited(,\d+){2}", re.ASCII)

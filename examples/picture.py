@@ -3,8 +3,8 @@
 
 usage: examples/picture.py [--names NAMES] TEXT.. >picture.svg      each TEXT is a file with a plan or a report as it was printed
 
-Of a plan: the slots of a cycle from left to right, a row for each disk, or, where they are too many for one line, line below line with a strip of
-its disk's colour over each; the darker an item, the higher its rate. Of a report: what was committed in each cycle, and a row for each attempt of
+Of a plan: for each of its programs the slots of a cycle from left to right, a row for each disk, or, where they are too many for one line, line
+below line with a strip of its disk's colour over each; the darker an item, the higher its rate. Of a report: what was committed in each cycle, and a row for each attempt of
 each reader: what it read in which cycle, whether it was accepted, and why it was not. Behind a plan each read stands at the slot of its item. NAMES
 is the file that deck_from_table.py makes: with it items have their names and values. What is too much to draw is left out, and counted.
 """
@@ -14,6 +14,7 @@ import re
 import sys
 
 from names import Names
+from plans import Plan, Programs
 from shapes import FAINT, INK, RULE, Picture, cut, shade, width_of
 
 LEFT, ROW, WIDE, MOST, MOST_SLOTS = 150, 26, 1100, 400, 2048
@@ -23,29 +24,9 @@ ENDS = {"accept": "accepted", "abort": "aborted", "unfinished": "left unfinished
 DISKS = ["#d29922", "#1a7f37", "#8250df", "#cf222e", "#0969da", "#bf3989", "#57606a", "#1b7c83"]
 # the lines of a plan and of a report: a tag, so many numbers, and lists
 READS = r"(\d+@\d+=\d+( \d+@\d+=\d+)*)?"
-PLAN = re.compile(r"program(,\d+){3}|disk(,\d+){4}|minor,\d+,(\d+|-)( (\d+|-))*|item(,\d+){6}", re.ASCII)
+PLAN = re.compile(r"replan(,\d+){2}|program(,\d+){3}|disk(,\d+){4}|minor,\d+,(\d+|-)( (\d+|-))*|item(,\d+){6}", re.ASCII)
 REPORT = re.compile(rf"start|commit(,\d+){{2}}|(accept|unfinished)(,\d+){{3}},{READS}|abort(,\d+){{3}},{READS},\d+@\d+,\d+"
                     rf"|aged(,\d+){{3}},{READS},\d+@\d+|counts(,\d+){{7}}|(glance|look)(,\d+){{3}}", re.ASCII)
-
-
-class Plan:
-    """A plan's numbers: the item of each slot, or a dash, with its disk; and of each item what its line says."""
-
-    def __init__(self, rows):
-        self.count, self.minors, self.length = map(int, rows[0][1:])
-        self.disks = [[int(field) for field in row[1:]] for row in rows if row[0] == "disk"]
-        self.items = {int(row[1]): [int(field) for field in row[2:]] for row in rows if row[0] == "item"}
-        self.rates = {item: pix // self.disks[disk][2] for item, (disk, _, _, _, pix) in self.items.items()}
-        owners = [disk for disk, _, _, places in self.disks for _ in range(places)]
-        self.slots = [(item, disk) for row in rows if row[0] == "minor" for item, disk in zip(row[2].split(" "), owners)]
-        self.top = max(self.rates.values())
-        self.aired = {}
-        for slot, (item, _) in enumerate(self.slots):
-            if item != "-":
-                self.aired.setdefault(int(item), []).append(slot)
-
-    def share(self, item):
-        return math.log1p(self.rates[item]) / math.log1p(self.top) if self.top else 0
 
 
 def draw_slot(picture, plan, slot, x, y, wide):
@@ -62,13 +43,24 @@ def draw_slot(picture, plan, slot, x, y, wide):
 
 
 def draw_plan(picture, rows):
+    """Each program of a plan."""
+    fronts = [0] + [at for at, row in enumerate(rows) if row[0] == "replan"]
+    picture.programs = Programs()
+    for front, end in zip(fronts, fronts[1:] + [len(rows)]):
+        part = rows[front:end]
+        first = 1 if front == 0 else int(part[0][2])
+        plan = Plan([row for row in part if row[0] != "replan"])
+        draw_program(picture, plan, f"From cycle {first} on: a" if len(fronts) > 1 else "A")
+        picture.programs.parts.append((first, plan))
+
+
+def draw_program(picture, plan, words):
     """Time to the right: a row for each disk, or, where the slots are too many for one line, line below line."""
-    plan = Plan(rows)
     longest = max(len(picture.called(item)) for item in plan.items)
     wide = max(30.0, min(96.0, 0.62 * 11 * longest + 8))
     shown = min(plan.count, MOST_SLOTS)
     is_long = plan.count * wide > WIDE
-    picture.heading(f"A cycle of {plan.count} slots", f"{plan.minors} minor cycles of {plan.length} slots"
+    picture.heading(f"{words} cycle of {plan.count} slots", f"{plan.minors} minor cycles of {plan.length} slots"
                     + (f"; {plan.count - shown} slots aren't drawn" if shown < plan.count else ""))
     signs = [(picture.box(shade(share)[0]), words) for share, words in ((0, "rate 0"), (1, f"rate {plan.top}"))] + [(picture.box("white", RULE), "idle")]
     if is_long:
@@ -95,7 +87,6 @@ def draw_plan(picture, rows):
         picture.height = base + lanes * ROW + 20
     picture.text(16, picture.height - 8, "slot", FAINT, size=10)
     picture.height += 14
-    picture.slots = plan
 
 
 def places(field):
@@ -133,7 +124,7 @@ def draw_history(picture, commits, columns, wide):
 
 def spots(picture, reads, after):
     """Where in its cycle each read stands, as a share of it: at its item's next slot, where the plan is known; else one beside the other."""
-    if picture.slots is None:
+    if picture.programs is None:
         total = {cycle: sum(other == cycle for _, other, _ in reads) for _, cycle, _ in reads}
         seen, found = {}, []
         for _, cycle, _ in reads:
@@ -142,10 +133,11 @@ def spots(picture, reads, after):
         return found, after
     found = []
     for item, cycle, _ in reads:
-        aired = picture.slots.aired[item]
+        plan = picture.programs.at(cycle)
+        aired = plan.aired[item]
         slot = next((slot for slot in aired if (cycle, slot) > after), aired[0])
         after = max(after, (cycle, slot))
-        found.append((slot + 0.5) / picture.slots.count)
+        found.append((slot + 0.5) / plan.count)
     return found, after
 
 
@@ -180,11 +172,12 @@ def draw_axis(picture, columns, wide):
         if at % math.ceil(24 / wide) == 0:
             picture.text(LEFT + (at + 0.5) * wide, picture.height + 10, f"cycle {cycle}" if wide >= 60 else str(cycle), FAINT, "middle", 10)
     picture.height += 16
-    if picture.slots is None or wide < 60:
+    if picture.programs is None or wide < 60:
         return
-    count, step = picture.slots.count, max(1, math.ceil(picture.slots.count * 24 / wide))
     picture.text(LEFT - 8, picture.height + 8, "slot", FAINT, "end", 9)
-    for at in columns.values():
+    for cycle, at in columns.items():
+        count = picture.programs.at(cycle).count
+        step = max(1, math.ceil(count * 24 / wide))
         # the last one leaves room for the first of the next cycle
         for slot in range(0, max(count - step, 0) + 1, step):
             picture.text(LEFT + (at + (slot + 0.5) / count) * wide, picture.height + 8, str(slot), FAINT, "middle", 9)
@@ -220,9 +213,9 @@ def draw_report(picture, rows):
     # all cycles from the first to the last, or, where these are too many, those in which something was read or committed
     every = range(min(cycles), max(cycles) + 1)
     columns = {cycle: at for at, cycle in enumerate(every if len(every) <= MOST else sorted(cycles))}
-    wide = min(240.0 if picture.slots else 120.0, max(3.0, WIDE / len(columns)))
+    wide = min(240.0 if picture.programs else 120.0, max(3.0, WIDE / len(columns)))
     left_out = f"; {len(every) - len(columns)} cycles in which nothing was read or committed aren't drawn" if len(columns) < len(every) else ""
-    picture.heading("What the readers made of it", "time to the right, a row for each attempt" + (", each read at the next slot of its item" if picture.slots else "") + left_out)
+    picture.heading("What the readers made of it", "time to the right, a row for each attempt" + (", each read at the next slot of its item" if picture.programs else "") + left_out)
     ended = [kind for kind in COLOURS if kind != "aged" or any(row[0] == kind for row in verdicts)]
     picture.legend([(lambda x, y, colour=COLOURS[kind]: picture.dot(x, y, colour), f"a read of an attempt that was {ENDS[kind]}") for kind in ended]
                    + [(lambda x, y: picture.cross(x, y, COLOURS["abort"]), "the read that was refused"), (picture.box(YELLOW, GOLD), "commits")])

@@ -105,7 +105,8 @@ class Reader:
             self.hold(new)
         self.copies[new.item] = new
         if len(self.copies) > self.room:
-            del self.copies[max(self.copies, key=lambda item: (-self.deck.worth[item], item))]
+            worth = self.deck.worth_at(self.newest)
+            del self.copies[max(self.copies, key=lambda item: (-worth[item], item))]
 
     def hear(self, bucket):
         self.settle()

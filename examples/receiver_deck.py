@@ -1,5 +1,5 @@
-"""What a receiver needs of a deck, written from docs/FORMATS.md alone: its readers with their queries, which item stands in which slot, and
-what its policy says of reads. The deck is taken to be without faults.
+"""What a receiver needs of a deck, written from docs/FORMATS.md alone: its readers with their queries, which item stands in which slot of which
+cycle, and what its policy says of reads. The deck is taken to be without faults.
 """
 import csv
 from functools import reduce
@@ -32,23 +32,37 @@ def program_of(rates, disks, delta):
 
 
 class Deck:
-    """The readers, each with its room, age, tries and queries; the program; the policy; and the version."""
+    """The readers, each with its room, age, tries and queries; the programs, and the cycles from which on they are in force; the policy; and the
+    version."""
 
     def __init__(self, rows):
         of = lambda tag: [row[1:] for row in rows if row[0] == tag]
         settings = dict(of("set"))
         self.policy, self.hears = settings.get("policy", "F"), int(settings.get("hears", 1000000))
         self.version = int(settings.get("version", 1))
-        self.slots, self.worth = program_of([int(rate) for _, _, rate in of("item")], of("disk"), int(settings.get("delta", 0)))
+        rates, delta = [int(rate) for _, _, rate in of("item")], int(settings.get("delta", 0))
+        self.replans = [int(cycle) for cycle, _, _ in of("replan")]
+        editions = [of("disk")] + [list(zip(sizes.split(), freqs.split())) for _, sizes, freqs in of("replan")]
+        self.programs = [program_of(rates, disks, delta) for disks in editions]
         self.readers = [(int(room), int(age), int(tries), []) for room, age, tries in of("reader")]
         for reader, items in of("query"):
             self.readers[int(reader)][3].append([int(item) for item in items.split()])
 
+    def edition_at(self, cycle):
+        """The number of replans that are in force by this cycle."""
+        return sum(first <= cycle for first in self.replans)
+
+    def worth_at(self, cycle):
+        """What a copy of each item is worth by the program in force in a cycle."""
+        return self.programs[self.edition_at(cycle)][1]
+
     def fits(self, bucket):
-        """Whether a bucket belongs in its slot, and isn't of a newer version than the deck's."""
-        if bucket.version > self.version or bucket.edition != 0 or bucket.slot >= len(self.slots) or bucket.count != len(self.worth):
+        """Whether a bucket belongs in its slot of its cycle, and isn't of a newer version than the deck's."""
+        edition = self.edition_at(bucket.cycle)
+        slots, worth = self.programs[edition]
+        if bucket.version > self.version or bucket.edition != edition or bucket.slot >= len(slots) or bucket.count != len(worth):
             return False
-        item, kind = self.slots[bucket.slot], COLUMN if self.policy == "F" else VECTOR
+        item, kind = slots[bucket.slot], COLUMN if self.policy == "F" else VECTOR
         return bucket.kind == IDLE if item is None else (bucket.kind, bucket.item) == (kind, item)
 
     def clashes(self, held, new):

@@ -17,10 +17,10 @@ def cut(words, room, size=11):
 
 
 class Picture:
-    """Shapes, and how far they reach; the names of items, where there are some; and the slots of the plan that was drawn, if one was."""
+    """Shapes, and how far they reach; the names of items, where there are some; and the programs of the plan that was drawn, if one was."""
 
     def __init__(self, names=None):
-        self.shapes, self.width, self.height, self.names, self.slots = [], 0, 16, names, None
+        self.shapes, self.width, self.height, self.names, self.programs = [], 0, 16, names, None
 
     def called(self, item):
         return self.names.called(item) if self.names else str(item)

@@ -22,6 +22,9 @@ DECKS = [
     # as few items as make a search of `split` too long on one disk
     "".join(f"item,{item},{1000 + item},{item % 7}\n" for item in range(775)) + "disk,775,1\nset,version,2\nupdate,0,774,1=774-5\nreader,1,9,2\n"
     "query,0,774 1\nscript,0 s\nset,cycles,1\n",
+    # three editions, with cycles of 3, 4 and 6 slots
+    "item,0,10,3\nitem,1,20,2\nitem,2,30,1\ndisk,3,1\nreplan,2,1 2,2 1\nreplan,4,2 1,- 1\nset,delta,1\nupdate,0,,0=11\nupdate,0,0,1=0+10\nreader,1,9,2\n"
+    "query,0,0\nquery,0,2 1\nquery,0,1 0\nreader,0,0,2\nquery,1,1 2\nscript,s 0 s 0 s s s\nset,cycles,5\nset,loss,10\nset,late,20\n",
 ]
 # Reports of a run of the decks that have monitors, since its threads make another history each time; and one with an attempt that aged
 RUNS = {
@@ -37,7 +40,7 @@ RUNS = {
     ],
 }
 
-DECK_FAULT = r"fault,2,[1-9][0-9]*,([1-9]|10|11)\n"
+DECK_FAULT = r"fault,2,[1-9][0-9]*,([1-9]|10|11|13)\n"
 TOO_LONG = r"fault,13,[1-9][0-9]*\n"
 TOO_MUCH = r"fault,11,[1-9][0-9]*\n"
 PART = r"[0-9]+@[0-9]+=[0-9]+"
@@ -47,7 +50,8 @@ VERDICTS = (rf"((accept|unfinished),[0-9]+,[0-9]+,[0-9]+,{READS}\n|abort,[0-9]+,
             rf"|aged,[0-9]+,[0-9]+,[0-9]+,{READS},[0-9]+@[0-9]+\n)*")
 COUNTS = r"(counts(,[0-9]+){7}\n)*"
 SIGHTS = r"(glance(,[0-9]+){3}\n)*(look(,[0-9]+){3}\n)*"
-PLAN = r"program(,[0-9]+){3}\n(disk(,[0-9]+){4}\n)+(minor,[0-9]+,([0-9]+|-)( ([0-9]+|-))*\n)+(item(,[0-9]+){6}\n)+"
+PROGRAM = r"program(,[0-9]+){3}\n(disk(,[0-9]+){4}\n)+(minor,[0-9]+,([0-9]+|-)( ([0-9]+|-))*\n)+(item(,[0-9]+){6}\n)+"
+PLAN = rf"{PROGRAM}(replan(,[0-9]+){{2}}\n{PROGRAM})*"
 FINDINGS = r"(agrees,[0-9]+\n|differs,[0-9]+,(value|verdict|clash|total)\n)*audited,[0-9]+,"
 # Of each command: its words, its other input, its weight, and the text of each status that it has over a file that can be read
 COMMANDS = {
