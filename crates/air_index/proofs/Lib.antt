@@ -1,0 +1,7 @@
+pub mod IndexLemmas
+pub mod ViewLemmas
+pub mod RecordLemmas
+pub mod SearchLemmas
+pub mod LawLemmas
+pub mod OnAirExamples
+mod SeekExamples
