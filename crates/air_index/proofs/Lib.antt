@@ -3,5 +3,6 @@ pub mod ViewLemmas
 pub mod RecordLemmas
 pub mod SearchLemmas
 pub mod LawLemmas
+pub mod SizeLemmas
 pub mod OnAirExamples
 mod SeekExamples

@@ -58,5 +58,5 @@ other_edition = (refl, refl, refl)
 -- The lengths of the indexed tapes of these, in version 1 and 2.
 lengths : indexed_size 1 2 two_items 1 ∷ indexed_size 1 2 two_items 2 ∷ indexed_size 1 2 two_items 0 ∷ indexed_size 2 2 two_items 1 ∷ indexed_size 1 2 two_disks 2
     ∷ indexed_size 1 3 (three_items (2 ∷ [])) 1 ∷ indexed_size 1 3 one_then_two 2 ∷ [] ≡ 107 ∷ 214 ∷ 0 ∷ 95 ∷ 412 ∷ 238 ∷ 402 ∷ []
-unfolding chunk chunk_len least_common_multiple minor_cycle num_chunks num_minors marks_of mark_size indexed_size
+unfolding chunk chunk_len least_common_multiple minor_cycle num_chunks num_minors marks_of mark_size
 lengths = refl

@@ -1,5 +1,5 @@
 -- The indexed tape: the buckets of a tape as data records, with an index record before those of each minor cycle.
-use Rattle.std.specs.Prelude.{ℕ, zero, suc, ◌+◌, ◌*◌, List, [], ◌∷◌, ◌++◌, Some, None, drop, get_or, length, map, sum_by}
+use Rattle.std.specs.Prelude.{ℕ, zero, suc, ◌+◌, ◌*◌, List, [], ◌∷◌, ◌++◌, Option, Some, None, drop, get_or, length, map, sum_by}
 use Rattle.std.specs.List.{range_with_len}
 use Rattle.air_model.specs.Aired.{air_of, buckets_of}
 use Rattle.air_model.specs.Buckets.{entry_len, spelling}
@@ -35,15 +35,24 @@ indexed_records plans n cycles buckets = records_from plans n 1 cycles buckets
 abbrev pub indexed_tape : Plans → ℕ → ℕ → List (List ℕ) → List ℕ
 indexed_tape plans n cycles buckets = tape_of (indexed_records plans n cycles buckets)
 
--- The bytes of a mark's record on a tape, in a version with n items: of its length and head, and of its entries.
+-- The bytes of a slot's data record on a tape, in a version with n items: of its length, its own head and its bucket's, and of the entries where it
+-- has an item.
+abbrev pub slot_size : ℕ → ℕ → Option ℕ → ℕ
+slot_size version n None = 4 + 5 + 24
+slot_size version n (Some i) = 4 + 5 + 24 + entry_len version * n
+
+-- The bytes of a mark's record.
 unfoldable pub mark_size : ℕ → ℕ → Mark → ℕ
 mark_size version n (IsIndex m) = 4 + 13 + 4 * n
-mark_size version n (IsSlot None) = 4 + 5 + 24
-mark_size version n (IsSlot (Some i)) = 4 + 5 + 24 + entry_len version * n
+mark_size version n (IsSlot o) = slot_size version n o
+
+-- The bytes of the records of marks.
+abbrev pub marks_size : ℕ → ℕ → List Mark → ℕ
+marks_size version n marks = sum_by (mark_size version n) marks
 
 -- The length of the indexed tape of the first so many cycles.
-unfoldable pub indexed_size : ℕ → ℕ → Plans → ℕ → ℕ
-indexed_size version n plans cycles = sum_by (λ c. sum_by (mark_size version n) (marks_at plans c)) (range_with_len 1 cycles)
+abbrev pub indexed_size : ℕ → ℕ → Plans → ℕ → ℕ
+indexed_size version n plans cycles = sum_by (λ c. marks_size version n (marks_at plans c)) (range_with_len 1 cycles)
 
 -- The indexed tape of a deck's script.
 abbrev pub beam_tape_of : Deck → List ℕ
