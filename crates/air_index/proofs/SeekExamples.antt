@@ -4,7 +4,7 @@ use Rattle.air_model.specs.Buckets.{Bucket, Idle, Vector, body_at, bucket_at, co
 use Rattle.air_model.specs.Programs.{chunk, chunk_len, least_common_multiple, minor_cycle, num_chunks, num_minors, program}
 use Rattle.air_model.specs.Tapes.{ends_inside, read_from, record_bytes, tape_of, tape_read}
 use Rattle.air_index.specs.Indexes.{index_at, index_bytes, index_entries, is_index}
-use Rattle.air_index.specs.IndexedTapes.{entries_for, indexed_records, records_from, records_of}
+use Rattle.air_index.specs.IndexedTapes.{entries_for, indexed_records, records_at_marks, records_from}
 use Rattle.air_index.specs.OnAir.{ahead, entry_for, marks_index, marks_item, marks_of, wait_for}
 use Rattle.air_index.specs.Records.{data_bytes, indexed_at, is_data, payload_at}
 use Rattle.air_index.specs.Seeks.{first_told, has_item, index_told, item_told, sought, sought_first, sought_index, sought_item}
@@ -34,12 +34,12 @@ twice = indexed_records two_items 2 2 (map spelling (of_two 1 0 0 10 ∷ of_two 
 -- How the tape begins, and its data records.
 beginnings : (take 25 (tape_of once) ≡ 0 ∷ 0 ∷ 0 ∷ 21 ∷ 0 ∷ 0 ∷ 0 ∷ 0 ∷ 0 ∷ 0 ∷ 0 ∷ 0 ∷ 1 ∷ 0 ∷ 0 ∷ 0 ∷ 2 ∷ 0 ∷ 0 ∷ 0 ∷ 1 ∷ 0 ∷ 0 ∷ 0 ∷ 2 ∷ [])
     × (take 9 (drop 25 (tape_of once)) ≡ 0 ∷ 0 ∷ 0 ∷ 37 ∷ 1 ∷ 0 ∷ 0 ∷ 0 ∷ 2 ∷ []) × (take 9 (drop 66 (tape_of once)) ≡ 0 ∷ 0 ∷ 0 ∷ 37 ∷ 1 ∷ 0 ∷ 0 ∷ 0 ∷ 1 ∷ []) × (length (tape_of once) ≡ 107)
-unfolding chunk chunk_len least_common_multiple minor_cycle num_chunks num_minors marks_of ahead marks_index marks_item entry_for wait_for entries_for records_of records_from index_bytes data_bytes entry_bytes kind_of count_of item_of value_of entries_of spelling record_bytes tape_of
+unfolding chunk chunk_len least_common_multiple minor_cycle num_chunks num_minors marks_of ahead marks_index marks_item entry_for wait_for entries_for records_at_marks records_from index_bytes data_bytes entry_bytes kind_of count_of item_of value_of entries_of spelling record_bytes tape_of
 beginnings = (refl, refl, refl, refl)
 
 -- The first 40 bytes are cut in the record that begins at byte 25.
 cut_tape : (tape_read (take 40 (tape_of once))).cut ≡ Some 25
-unfolding chunk chunk_len least_common_multiple minor_cycle num_chunks num_minors marks_of ahead marks_index marks_item entry_for wait_for entries_for records_of records_from index_bytes data_bytes entry_bytes kind_of count_of item_of value_of entries_of spelling record_bytes tape_of read_from ends_inside
+unfolding chunk chunk_len least_common_multiple minor_cycle num_chunks num_minors marks_of ahead marks_index marks_item entry_for wait_for entries_for records_at_marks records_from index_bytes data_bytes entry_bytes kind_of count_of item_of value_of entries_of spelling record_bytes tape_of read_from ends_inside
 cut_tape = refl
 
 -- A tape without a cycle has no record, and nothing is found on it.
@@ -49,11 +49,11 @@ no_cycle = (refl, refl)
 
 seeks_once : sought once 1 0 ∷ sought once 0 0 ∷ sought once 0 1 ∷ sought once 1 1 ∷ sought once 0 2 ∷ sought once 1 3 ∷ sought once 2 0 ∷ []
     ≡ Found 2 2 1 20 ∷ Found 2 1 1 10 ∷ Found 1 1 1 10 ∷ Lost 1 ∷ Lost 1 ∷ Lost 0 ∷ Lost 1 ∷ []
-unfolding chunk chunk_len least_common_multiple minor_cycle num_chunks num_minors marks_of ahead marks_index marks_item entry_for wait_for entries_for records_of records_from index_bytes data_bytes entry_bytes kind_of count_of item_of value_of entries_of spelling first_told has_item index_told item_told sought_first sought_index sought_item indexed_at payload_at is_data is_index index_at index_entries bucket_at reading is_shaped is_placed is_entry raw_entries entry_count entries_at entry_told body_at
+unfolding chunk chunk_len least_common_multiple minor_cycle num_chunks num_minors marks_of ahead marks_index marks_item entry_for wait_for entries_for records_at_marks records_from index_bytes data_bytes entry_bytes kind_of count_of item_of value_of entries_of spelling first_told has_item index_told item_told sought_first sought_index sought_item indexed_at payload_at is_data is_index index_at index_entries bucket_at reading is_shaped is_placed is_entry raw_entries entry_count entries_at entry_told body_at
 seeks_once = refl
 
 seeks_twice : sought twice 1 1 ∷ sought twice 0 2 ∷ sought twice 0 4 ∷ sought twice 0 5 ∷ [] ≡ Found 3 5 2 20 ∷ Found 3 4 2 10 ∷ Found 1 4 2 10 ∷ Lost 1 ∷ []
-unfolding chunk chunk_len least_common_multiple minor_cycle num_chunks num_minors marks_of ahead marks_index marks_item entry_for wait_for entries_for records_of records_from index_bytes data_bytes entry_bytes kind_of count_of item_of value_of entries_of spelling first_told has_item index_told item_told sought_first sought_index sought_item indexed_at payload_at is_data is_index index_at index_entries bucket_at reading is_shaped is_placed is_entry raw_entries entry_count entries_at entry_told body_at program
+unfolding chunk chunk_len least_common_multiple minor_cycle num_chunks num_minors marks_of ahead marks_index marks_item entry_for wait_for entries_for records_at_marks records_from index_bytes data_bytes entry_bytes kind_of count_of item_of value_of entries_of spelling first_told has_item index_told item_told sought_first sought_index sought_item indexed_at payload_at is_data is_index index_at index_entries bucket_at reading is_shaped is_placed is_entry raw_entries entry_count entries_at entry_told body_at program
 seeks_twice = refl
 
 -- Item 0 is aired twice a cycle, and the last slot is idle.
@@ -63,11 +63,11 @@ disks_twice =
     (map spelling (of_two 1 0 0 10 ∷ of_two 1 1 1 20 ∷ of_two 1 2 0 10 ∷ idle 1 3 ∷ of_two 2 0 0 10 ∷ of_two 2 1 1 20 ∷ of_two 2 2 0 10 ∷ idle 2 3 ∷ []))
 
 length_disks : (length disks_twice ≡ 12) × (length (tape_of disks_twice) ≡ 412)
-unfolding chunk chunk_len least_common_multiple minor_cycle num_chunks num_minors marks_of ahead marks_index marks_item entry_for wait_for entries_for records_of records_from index_bytes data_bytes entry_bytes kind_of count_of item_of value_of entries_of spelling record_bytes tape_of program
+unfolding chunk chunk_len least_common_multiple minor_cycle num_chunks num_minors marks_of ahead marks_index marks_item entry_for wait_for entries_for records_at_marks records_from index_bytes data_bytes entry_bytes kind_of count_of item_of value_of entries_of spelling record_bytes tape_of program
 length_disks = (refl, refl)
 
 seeks_disks : sought disks_twice 0 5 ∷ sought disks_twice 1 5 ∷ sought disks_twice 1 2 ∷ sought disks_twice 1 7 ∷ [] ≡ Found 3 7 2 10 ∷ Found 3 8 2 20 ∷ Found 1 2 1 20 ∷ Lost 2 ∷ []
-unfolding chunk chunk_len least_common_multiple minor_cycle num_chunks num_minors marks_of ahead marks_index marks_item entry_for wait_for entries_for records_of records_from index_bytes data_bytes entry_bytes kind_of count_of item_of value_of entries_of spelling first_told has_item index_told item_told sought_first sought_index sought_item indexed_at payload_at is_data is_index index_at index_entries bucket_at reading is_shaped is_placed is_entry raw_entries entry_count entries_at entry_told body_at program
+unfolding chunk chunk_len least_common_multiple minor_cycle num_chunks num_minors marks_of ahead marks_index marks_item entry_for wait_for entries_for records_at_marks records_from index_bytes data_bytes entry_bytes kind_of count_of item_of value_of entries_of spelling first_told has_item index_told item_told sought_first sought_index sought_item indexed_at payload_at is_data is_index index_at index_entries bucket_at reading is_shaped is_placed is_entry raw_entries entry_count entries_at entry_told body_at program
 seeks_disks = refl
 
 -- The program changes behind the one cycle of the tape: its last index counts into the next edition.
@@ -75,7 +75,7 @@ abbrev changed : List (List ℕ)
 changed = indexed_records (three_items (2 ∷ [])) 3 1 (map spelling (of_three 1 0 0 10 ∷ of_three 1 1 1 20 ∷ of_three 1 2 0 10 ∷ of_three 1 3 2 30 ∷ []))
 
 seeks_changed : sought changed 1 1 ∷ sought changed 1 2 ∷ sought changed 2 1 ∷ sought changed 0 5 ∷ [] ≡ Lost 2 ∷ Found 1 2 1 20 ∷ Found 3 5 1 30 ∷ Lost 1 ∷ []
-unfolding chunk chunk_len least_common_multiple minor_cycle num_chunks num_minors marks_of ahead marks_index marks_item entry_for wait_for entries_for records_of records_from index_bytes data_bytes entry_bytes kind_of count_of item_of value_of entries_of spelling first_told has_item index_told item_told sought_first sought_index sought_item indexed_at payload_at is_data is_index index_at index_entries bucket_at reading is_shaped is_placed is_entry raw_entries entry_count entries_at entry_told body_at
+unfolding chunk chunk_len least_common_multiple minor_cycle num_chunks num_minors marks_of ahead marks_index marks_item entry_for wait_for entries_for records_at_marks records_from index_bytes data_bytes entry_bytes kind_of count_of item_of value_of entries_of spelling first_told has_item index_told item_told sought_first sought_index sought_item indexed_at payload_at is_data is_index index_at index_entries bucket_at reading is_shaped is_placed is_entry raw_entries entry_count entries_at entry_told body_at
 seeks_changed = refl
 
 -- Odd records: a number 0, one that leads to a data record, an entry that leads to another item, another tag, none, and a bucket alone.
@@ -84,7 +84,7 @@ item_0 = spelling (of_two 1 0 0 10)
 
 seeks_odd : sought (data_bytes 0 item_0 ∷ []) 1 0 ∷ sought (data_bytes 1 item_0 ∷ data_bytes 1 item_0 ∷ []) 1 0 ∷ sought (index_bytes 1 0 (1 ∷ 1 ∷ []) ∷ data_bytes 1 item_0 ∷ []) 1 0
     ∷ sought ((2 ∷ []) ∷ []) 0 0 ∷ sought ([] ∷ []) 0 0 ∷ sought (item_0 ∷ []) 0 0 ∷ [] ≡ Lost 1 ∷ Lost 2 ∷ Lost 2 ∷ Lost 1 ∷ Lost 1 ∷ Lost 1 ∷ []
-unfolding chunk chunk_len least_common_multiple minor_cycle num_chunks num_minors marks_of ahead marks_index marks_item entry_for wait_for entries_for records_of records_from index_bytes data_bytes entry_bytes kind_of count_of item_of value_of entries_of spelling first_told has_item index_told item_told sought_first sought_index sought_item indexed_at payload_at is_data is_index index_at index_entries bucket_at reading is_shaped is_placed is_entry raw_entries entry_count entries_at entry_told body_at
+unfolding chunk chunk_len least_common_multiple minor_cycle num_chunks num_minors marks_of ahead marks_index marks_item entry_for wait_for entries_for records_at_marks records_from index_bytes data_bytes entry_bytes kind_of count_of item_of value_of entries_of spelling first_told has_item index_told item_told sought_first sought_index sought_item indexed_at payload_at is_data is_index index_at index_entries bucket_at reading is_shaped is_placed is_entry raw_entries entry_count entries_at entry_told body_at
 seeks_odd = refl
 
 -- An index record with an entry 0, with a byte behind its entries, and without an entry is none.

@@ -16,16 +16,16 @@ unfoldable pub entries_for : Plans → ℕ → ℕ → ℕ → List ℕ
 entries_for plans n c q = map (entry_for plans c q) (range_with_len 0 n)
 
 -- The records of these marks of cycle c, which begin at place q: an index with n entries, or the data record of the next of the buckets' bytes.
-unfoldable pub records_of : Plans → ℕ → ℕ → ℕ → List Mark → List (List ℕ) → List (List ℕ)
-records_of plans n c q [] buckets = []
-records_of plans n c q (IsIndex m ∷ marks) buckets = index_bytes c m (entries_for plans n c q) ∷ records_of plans n c (q + 1) marks buckets
-records_of plans n c q (IsSlot o ∷ marks) buckets = data_bytes (wait_for plans c q) (get_or buckets 0 []) ∷ records_of plans n c (q + 1) marks (drop 1 buckets)
+unfoldable pub records_at_marks : Plans → ℕ → ℕ → ℕ → List Mark → List (List ℕ) → List (List ℕ)
+records_at_marks plans n c q [] buckets = []
+records_at_marks plans n c q (IsIndex m ∷ marks) buckets = index_bytes c m (entries_for plans n c q) ∷ records_at_marks plans n c (q + 1) marks buckets
+records_at_marks plans n c q (IsSlot o ∷ marks) buckets = data_bytes (wait_for plans c q) (get_or buckets 0 []) ∷ records_at_marks plans n c (q + 1) marks (drop 1 buckets)
 
 -- The records of so many cycles from cycle c on, with the bytes of their buckets in order.
 unfoldable pub records_from : Plans → ℕ → ℕ → ℕ → List (List ℕ) → List (List ℕ)
 records_from plans n c zero buckets = []
 records_from plans n c (suc more) buckets =
-    records_of plans n c 0 (marks_at plans c) buckets ++ records_from plans n (c + 1) more (drop (length (planned_slots plans c)) buckets)
+    records_at_marks plans n c 0 (marks_at plans c) buckets ++ records_from plans n (c + 1) more (drop (length (planned_slots plans c)) buckets)
 
 -- The records of the indexed tape of the first so many cycles.
 abbrev pub indexed_records : Plans → ℕ → ℕ → List (List ℕ) → List (List ℕ)

@@ -23,8 +23,8 @@ abbrev pub told_after : ℕ → Search → List (List ℕ) → Sought
 told_after i search records = told_from i search.place search.wanted (drop search.skip records)
 
 -- What a seeker tells where these records follow.
-abbrev pub told_by : Seeking → List (List ℕ) → Sought
-told_by s records = told_after s.item s.search records
+abbrev pub seeker_tells : Seeking → List (List ℕ) → Sought
+seeker_tells s records = told_after s.item s.search records
 
 -- A place, and the number of opened records, are as small as the numbers of four bytes allow that were added so far.
 unfoldable pub IsReached : ℕ → Wanted → Type 0

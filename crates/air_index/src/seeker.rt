@@ -1,12 +1,12 @@
 //! Finding an item on an indexed tape.
 //!
-//! What a seeker tells depends on the records that follow alone (`told_by`). All that it opens lies ahead, so it hears each record
+//! What a seeker tells depends on the records that follow alone (`seeker_tells`). All that it opens lies ahead, so it hears each record
 //! once and keeps none.
 
 ghost use Rattle.std.specs.Prelude.{◌≡◌, ◌<◌, ℕ, List, [], ◌∷◌, None, IfErr, IfOk, OnOk};
 ghost use Rattle.air_model.specs.Tapes.{tape_read};
 ghost use Rattle.bucket_codec.specs.Readers.{only_cut_at};
-ghost use Rattle.air_index.specs.Searches.{told_by};
+ghost use Rattle.air_index.specs.Searches.{seeker_tells};
 ghost use Rattle.air_index.specs.Seeks.{sought};
 
 use crate::searches::{Search, Wanted};
@@ -35,7 +35,7 @@ impl Model for Seeker {
 impl Seeker {
     /// Seeks an item from record `from` on; records count from 0.
     pub fn new(item: u16, from: u32) -> Seeker
-        ensures { (records : List (List ℕ)) → told_by result records ≡ sought records item from }
+        ensures { (records : List (List ℕ)) → seeker_tells result records ≡ sought records item from }
     {
         Seeker {
             item,
@@ -49,14 +49,14 @@ impl Seeker {
 
     /// Hears the next record.
     pub fn hear(&mut self, bytes: &[u8])
-        ensures { (records : List (List ℕ)) → told_by self.new records ≡ told_by self.old (bytes.now ∷ records) }
+        ensures { (records : List (List ℕ)) → seeker_tells self.new records ≡ seeker_tells self.old (bytes.now ∷ records) }
     {
         self.search = after(self.item, self.search, bytes);
     }
 
     /// What came of it, where no record follows.
     pub fn end(&self) -> Sought
-        ensures { result ≡ told_by self.now [] }
+        ensures { result ≡ seeker_tells self.now [] }
     {
         match self.search.wanted {
             Wanted::First => Sought::Lost { opens: 0 },
