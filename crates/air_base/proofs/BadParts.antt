@@ -1,4 +1,5 @@
--- The first bad part of a list that is read from its beginning: it is that of the rest, as long as no bad one was read.
+-- The first bad part of a list that is read from its beginning: as long as no bad part was read, it is the first one of the
+-- rest.
 use Rattle.std.proofs.Common.{◌≡◌, ◌<◌, ◌≤◌, ◌+◌, ◌-◌, ◌∷◌, [], ℕ, suc, List, Option, Some, None, Bool, true, false, cond, nat_lt, length, take, refl, ap, ◌∙◌, arith, option_map, length-append}
 use Rattle.std.specs.Prelude.{is_none}
 use Rattle.std.specs.List.{position, position_or_len}
@@ -14,7 +15,7 @@ use Rattle.air_base.proofs.LeadingListLemmas.{parts_leading}
 abbrev pub bad_of : {A : Type 0} → (List ℕ → Option A) → List (List ℕ) → Option ℕ
 bad_of value parts = option_map (part_start parts) (position (λ part. is_none (value part)) parts)
 
--- The first bad part of a text is that of its rest, as many bytes further on as stand before the rest.
+-- The first bad part of a text is that of its rest, moved by the number of bytes before the rest.
 abbrev pub BadFrom : {A : Type 0} → (List ℕ → Option A) → List ℕ → List ℕ → Type 0
 BadFrom value text rest = (length rest ≤ length text) × (bad_part_at value text ≡ option_map (λ at. length text - length rest + at) (bad_of value (parts_at 32 rest)))
 

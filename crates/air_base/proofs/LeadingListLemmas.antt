@@ -1,4 +1,4 @@
--- A list is read from its beginning: what is done, and what the rest spells, is what the whole spells.
+-- A list is read from its beginning: the values read so far and what the rest spells are together what the whole text spells.
 use Rattle.std.proofs.Common.{◌≡◌, ◌<◌, ◌≤◌, ◌++◌, ◌∷◌, [], ℕ, List, Option, Some, None, Bool, true, false, cond, refl, sym, ap, ◌∙◌, map, length, append_assoc, option_map, arith}
 use Rattle.air_base.specs.NumberLists.{all_some, list_of}
 use Rattle.air_base.specs.Parts.{parts_at}
@@ -24,7 +24,7 @@ prepend_some done x None = refl
 prepend_some done x (Some xs) = ap Some (sym (append_assoc done (x ∷ []) xs))
 
 module _ {A : Type 0} (value : List ℕ → Option A) (all : Option (List A)) (done : List A) (rest : List ℕ) (told : prepend done (part_values value rest) ≡ all) where
-  -- One more part, behind which the list goes on.
+  -- One more part, after which the list continues.
   pub list_more : (x : A) (space : ℕ) (more : List ℕ) → value (first_part rest) ≡ Some x → after_part rest ≡ space ∷ more → prepend (done ++ x ∷ []) (part_values value more) ≡ all
   unfolding all_some
   list_more x space more one after = sym (prepend_some done x (part_values value more)) ∙ sym (ap (λ ps. prepend done (all_some (map value ps))) (parts_leading rest) ∙ rw (one, after) refl) ∙ told

@@ -1,7 +1,8 @@
 -- The leading number of a text, by the digits there and what follows them.
 --
--- `part_ends` and `part_goes_on` answer the reader of the first part, `whole_number` and `no_whole` that of a whole text.
--- `part_with`, `after_byte` and `leading_moved` go on behind a byte that stands between two numbers of one part.
+-- `part_ends` and `part_goes_on` are for the call that reads the first part, `whole_number` and `no_whole` for the one that
+-- reads a whole text. `part_with`, `after_byte` and `leading_moved` continue after a byte that is between two numbers of one
+-- part.
 use Rattle.std.proofs.Common.{◌≡◌, ◌<◌, ◌^◌, ◌++◌, ◌∷◌, [], ℕ, List, Option, Some, None, Bool, true, false, cond, not, length, nat_lt, refl, sym, ap, ◌∙◌, arith}
 use Rattle.std.specs.Prelude.{◌&&◌, ◌||◌, ◌==◌}
 use Rattle.std.specs.Char.{is_ascii_digit}
@@ -65,7 +66,7 @@ digits_no_spaces : (text : List ℕ) → list_all is_no_space (digits_of text) �
 unfolding digits_of
 digits_no_spaces text = all_such is_ascii_digit is_no_space digit_no_space (leading_part is_ascii_digit text) (leading_all is_ascii_digit text)
 
--- The first part begins with the leading digits; the rest of it begins what follows them.
+-- The first part is the leading digits and the first part of what follows them.
 pub part_by_digits : (text : List ℕ) → first_part text ≡ digits_of text ++ first_part (after_digits text)
 unfolding first_part digits_of after_digits
 part_by_digits text =
@@ -78,7 +79,7 @@ after_by_digits text =
     ap (behind is_no_space) (leading_behind is_ascii_digit text)
     ∙ behind_past is_no_space (leading_part is_ascii_digit text) (behind is_ascii_digit text) (unfold digits_of in digits_no_spaces text)
 
--- Nothing is before a space or the end.
+-- Before a space or the end the first part is empty.
 pub ended : (text : List ℕ) → ends_part text ≡ true → (first_part text ≡ []) × (after_part text ≡ text)
 unfolding first_part after_part
 ended [] h = (refl, refl)
@@ -94,7 +95,7 @@ behind_digits (x ∷ xs) c rest h = by (is_ascii_digit x) refl h (behind_digits 
     by true e h more = more h
     by false e h more = let same : x ≡ c = cc h in ap is_ascii_digit (sym same) ∙ e
 
--- A part that goes on behind its digits.
+-- A part that continues after its digits.
 pub goes_on : (c : ℕ) (rest : List ℕ) → is_no_space c ≡ true → first_part (c ∷ rest) ≡ c ∷ first_part rest
 unfolding first_part
 goes_on c rest h = rw h refl
@@ -116,7 +117,7 @@ part_goes_on text on = by (after_digits text) refl on
         ap number_of (part_by_digits text ∙ ap (λ l. digits_of text ++ first_part l) e ∙ ap (λ l. digits_of text ++ l) (goes_on c cs (ap not on)))
         ∙ no_number (digits_of text ++ c ∷ first_part cs) (digits_then (digits_of text) c (first_part cs) (behind_digits text c cs e))
 
--- Where the leading digits are no number, the first part is none.
+-- If the leading digits spell no number, the first part spells none either.
 pub no_digits : (text : List ℕ) → number_of (digits_of text) ≡ None → number_of (first_part text) ≡ None
 no_digits text none = by (ends_part (after_digits text)) refl
   where
@@ -133,7 +134,7 @@ pub whole_number : (text : List ℕ) → after_digits text ≡ [] → number_of 
 unfolding digits_of after_digits
 whole_number text none = ap number_of (sym (leading_behind is_ascii_digit text ∙ rw none (append-nil (leading_part is_ascii_digit text))))
 
--- A text spells no number where more than digits stands there, or where its first digits spell none.
+-- A text spells no number if more than digits is in it, or if its first digits spell none.
 digits_and_more : (text : List ℕ) (c : ℕ) (cs : List ℕ) → after_digits text ≡ c ∷ cs → text ≡ digits_of text ++ c ∷ cs
 unfolding digits_of after_digits
 digits_and_more text c cs more = leading_behind is_ascii_digit text ∙ ap (λ l. leading_part is_ascii_digit text ++ l) more
@@ -148,7 +149,7 @@ no_whole text none = by (after_digits text) refl
     by [] e = sym (whole_number text e) ∙ none
     by (c ∷ cs) e = more_whole text c cs e
 
--- The first part, where a byte that is no space stands behind the digits.
+-- The first part, if a byte other than a space follows the digits.
 pub part_with : (text : List ℕ) (c : ℕ) (more : List ℕ) → after_digits text ≡ c ∷ more → (c == 32) ≡ false → first_part text ≡ digits_of text ++ c ∷ first_part more
 part_with text c more e space = part_by_digits text ∙ ap (λ l. digits_of text ++ first_part l) e ∙ ap (λ l. digits_of text ++ l) (goes_on c more (ap not space))
 
@@ -156,7 +157,7 @@ pub after_byte : (text : List ℕ) (c : ℕ) (more : List ℕ) → after_digits 
 unfolding after_part
 after_byte text c more e space = sym (after_by_digits text ∙ ap after_part e ∙ rw space refl)
 
--- The text behind a byte that stands behind the digits.
+-- The text after a byte that follows the digits.
 pub behind_byte : (text : List ℕ) (byte : ℕ) → begins byte (after_digits text) ≡ true → (more : List ℕ) × (after_digits text ≡ byte ∷ more)
 behind_byte text byte h = by (after_digits text) h
   where
@@ -164,7 +165,7 @@ behind_byte text byte h = by (after_digits text) h
     by [] h = cc h
     by (c ∷ more) h = let same : c ≡ byte = grind (arith, nat_tests, h) in (more, ap (λ x. x ∷ more) same)
 
--- What is read behind such a byte is read of the whole, where both values are the same.
+-- What is read after such a byte is what is read of the whole, if both values are equal.
 pub leading_moved : {A : Type 0} (f g : List ℕ → Option A) (text more : List ℕ) (r : Option (A × List ℕ))
     → f (first_part text) ≡ g (first_part more) → after_part more ≡ after_part text → LeadingIs g more r → LeadingIs f text r
 leading_moved f g text more None same after h = same ∙ h

@@ -10,7 +10,7 @@ use Rattle.air_base.proofs.NumberLemmas.{bad_leading, spelled, too_great, value_
 use Rattle.air_base.specs.LeadingParts.{DigitsRead, after_digits, behind, digits_of, leading_part}
 use Rattle.air_base.proofs.LeadingPartLemmas.{end_behind, end_leading, leading_past, scan_behind, scan_leading, scan_more}
 
--- All leading digits were read: what stands behind them, if anything does, is no digit.
+-- All leading digits were read: the byte after them, if there is one, is no digit.
 module _ (text : List ℕ) (len n : ℕ) (read : DigitsRead text len n) (within : len ≤ length text) (stop : is_ascii_digit (get_or text len 0) ≡ false) where
   long : length (take len text) ≡ len
   long = length-take-le len text within

@@ -1,4 +1,4 @@
--- What stands before the first element that fails a test, and what stands from it on.
+-- The elements before the first one that fails a test, and the elements from that one on.
 use Rattle.std.proofs.Common.{◌≡◌, ◌<◌, ◌≤◌, ◌+◌, ◌++◌, ◌∷◌, [], ℕ, List, Bool, true, false, cond, length, get_or, take, drop, refl, sym, ap, ◌∙◌}
 use Rattle.std.specs.Prelude.{◌&&◌}
 use Rattle.std.specs.List.{list_all}
@@ -7,7 +7,7 @@ use Rattle.std.proofs.lemmas.List.Folds.{list_all-append}
 use Rattle.air_base.specs.LeadingParts.{leading_part, behind}
 
 module _ (test : ℕ → Bool) where
-  -- Elements that pass are before the first that fails.
+  -- Elements that pass come before the first that fails.
   pub leading_past : (a b : List ℕ) → list_all test a ≡ true → leading_part test (a ++ b) ≡ a ++ leading_part test b
   leading_past [] b all = refl
   leading_past (x ∷ a) b all = by (test x) refl all (leading_past a b)
@@ -26,7 +26,7 @@ module _ (test : ℕ → Bool) where
       by true e all more = rw (e, more all) refl
       by false e all more = cc all
 
-  -- The leading part passes, and what is behind it begins with one that fails.
+  -- The leading part passes, and what follows it begins with one that fails.
   pub leading_all : (xs : List ℕ) → list_all test (leading_part test xs) ≡ true
   leading_all [] = refl
   leading_all (x ∷ xs) = by (test x) refl (leading_all xs)
@@ -43,7 +43,7 @@ module _ (test : ℕ → Bool) where
       by true e = ap (λ l. x ∷ l) e
       by false e = refl
 
-  -- A scan that stands before a place whose elements all passed.
+  -- A scan has reached place i, and all elements before it passed.
   module _ (xs : List ℕ) (i : ℕ) (passed : list_all test (take i xs) ≡ true) where
     pub scan_more : (d : ℕ) → i < length xs → test (get_or xs i d) ≡ true → list_all test (take (i + 1) xs) ≡ true
     scan_more d below pass = ap (list_all test) (take_more xs i d below) ∙ list_all-append test (take i xs) (get_or xs i d ∷ []) ∙ rw (passed, pass) refl

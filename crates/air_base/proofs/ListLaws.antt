@@ -1,7 +1,7 @@
 -- The laws of lists as texts: a list is what its parts spell, and has one text.
 --
--- `parts_of-list_text` and `list_text-parts_of` take parts and text into each other, whatever the parts
--- spell; the four laws on lists of numbers stand on them. Printers and readers of other lists cite them.
+-- `parts_of-list_text` and `list_text-parts_of` take parts and text into each other, for any items that the parts spell. The
+-- four laws on lists of numbers follow from them. Proofs about printing and reading other lists cite them.
 use Rattle.std.proofs.Common.{◌≡◌, ◌↔◌, ◌<◌, ◌^◌, ◌+◌, ◌∷◌, [], ℕ, suc, List, Option, Some, None, Bool, true, false, cond, eqb, nat_lt, refl, arith, length, map, get_or, sym, ap, ◌∙◌}
 use Rattle.std.specs.Prelude.{not, is_none, is_some, IsNone, IsSome, option_map}
 use Rattle.std.specs.Char.{is_ascii_digit}
@@ -23,7 +23,7 @@ pub record IsPart (part : List ℕ) : Type 0 where
 part_alone : (part : List ℕ) → IsPart part → between_spaces part ≡ part ∷ []
 part_alone part is = slice_split_none (λ b. eqb b 32) part is.no_space
 
--- The parts of a text made of parts are these.
+-- The parts of a text that is made of parts are those parts.
 between_spaces-list_text : (part : List ℕ) (parts : List (List ℕ)) → All IsPart (part ∷ parts) → between_spaces (list_text (part ∷ parts)) ≡ part ∷ parts
 between_spaces-list_text part [] are = part_alone part (All-head IsPart part [] are)
 between_spaces-list_text part (next ∷ parts) are =
@@ -40,12 +40,12 @@ parts_of-list_text [] are = refl
 parts_of-list_text (part ∷ parts) are =
     parts_of-between (list_text (part ∷ parts)) (list_text_some part parts (All-head IsPart part parts are).some) ∙ between_spaces-list_text part parts are
 
--- A text is that of its parts.
+-- A text is the text of its parts.
 pub list_text-parts_of : (text : List ℕ) → list_text (parts_of text) ≡ text
 list_text-parts_of [] = refl
 list_text-parts_of (b ∷ bs) = join_with_byte-slice_split 32 (b ∷ bs)
 
--- Where all items are there, these are they.
+-- If all items are there, the list is these items.
 pub Some-all_some : {A : Type 0} (xs : List (Option A)) (items : List A) → all_some xs ≡ Some items → xs ≡ map Some items
 unfolding all_some
 Some-all_some [] [] e = refl

@@ -22,7 +22,7 @@ digit_is text place byte digit is =
     let range : IsAsciiDigit byte = grind (arith, nat_tests, digit) in
     record { digit = subst (λ b. is_ascii_digit b ≡ true) is digit; is = is; least = omega (arith, range); most = omega (arith, range) }
 
--- So few digits have a value that four more leave below the greatest.
+-- The library's laws on digits, for this test of digits. By them fewer than fifteen digits have a value below 10 ^ 15.
 decimal_digits : IsNumeralModel (λ ds. list_all is_ascii_digit ds ≡ true) (digits_value 10)
 decimal_digits = numerals_by_value (λ ds. list_all is_ascii_digit ds ≡ true) (search rules)
 

@@ -1,7 +1,7 @@
 -- Which number a text spells, digit by digit, and the laws of spelling.
 --
--- `value_more` and `digits_more_read` read one more digit; `number_text-decimal` ties a number's text to what
--- the library prints; `text_spells` and `one_spelling` are the two laws. Readers and printers cite them.
+-- `value_more` and `digits_more_read` read one more digit. `number_text-decimal` ties a number's text to what the library
+-- prints. `text_spells` and `one_spelling` are the two laws. Proofs about reading and printing numbers cite them.
 use Rattle.std.proofs.Common.{◌≡◌, ◌+◌, ◌-◌, ◌*◌, ◌^◌, ◌<◌, ◌≤◌, ◌∷◌, [], ℕ, zero, suc, List, Some, None, Bool, true, false, refl, cond, arith, rules, nat_lt, length, take, not, sym, ap, ◌∙◌, get_or}
 use Rattle.std.specs.Prelude.{◌&&◌, ◌||◌, ◌==◌}
 use Rattle.std.specs.Char.{is_ascii_digit, IsAsciiDigit}
@@ -46,16 +46,16 @@ pub no_numeral : (text : List ℕ) → is_numeral text ≡ false → None ≡ nu
 unfolding number_of
 no_numeral text h = rw h refl
 
--- A text that begins badly spells no number: without a byte, or with a zero before more.
+-- A text spells no number if it is empty, or if it begins with a zero and has more bytes.
 pub bad_leading : (text : List ℕ) → ((0 < length text) × (get_or text 0 0 ≡ 48 → length text ≡ 1) → ⊥) → None ≡ number_of text
 bad_leading text bad = no_numeral text (false_from_ne_true (is_numeral text) (λ is. let parts = parts_of_numeral text is in bad (parts.some, parts.zero_alone)))
 
--- Nor does one with another byte than a digit.
+-- A text with a byte that is no digit spells no number.
 pub no_digit : (text : List ℕ) (i : ℕ) → i < length text → is_ascii_digit (get_or text i 0) ≡ false → None ≡ number_of text
 no_digit text i within other = no_numeral text (false_from_ne_true (is_numeral text) (λ is.
     both_ways (list_all is_ascii_digit text) (list_all_at is_ascii_digit text i 0 within other) (parts_of_numeral text is).digits))
 
--- Nor one whose first digits have a value above the greatest.
+-- A text whose first digits have a value above the greatest spells no number.
 pub too_great : (text : List ℕ) (i : ℕ) → 2 ^ 64 ≤ digits_value 10 (take i text) → None ≡ number_of text
 unfolding number_of
 too_great text i above = by (is_numeral text) (nat_lt (digits_value 10 text) (2 ^ 64)) refl
@@ -128,7 +128,7 @@ one_spelling text n spelled = by (is_numeral text) (nat_lt (digits_value 10 text
         let below : digits_value 10 text < 2 ^ 64 = grind arith in
         sym (decimal-digits_value own text parts.digits parts.some parts.zero_alone below) ∙ ap decimal value ∙ sym (number_text-decimal n (rw value at below))
 
--- A text that spells a number has digits alone, and one at least.
+-- A text that spells a number has only digits, and at least one.
 pub number_digits : (text : List ℕ) (n : ℕ) → number_of text ≡ Some n → (0 < length text) × (list_all is_ascii_digit text ≡ true)
 unfolding number_of
 number_digits text n spelled = by (is_numeral text) (nat_lt (digits_value 10 text) (2 ^ 64)) refl spelled

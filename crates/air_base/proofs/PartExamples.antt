@@ -1,4 +1,4 @@
--- Digits, and lists of just so many elements, computed at their ends.
+-- Digits, and lists of one, two or three elements, computed at their ends.
 use Rattle.std.specs.Prelude.{◌≡◌, ℕ, [], ◌∷◌, Some, None, true, false, codes, refl}
 use Rattle.air_base.specs.Numbers.{is_numeral, last_digits}
 use Rattle.air_base.specs.Parts.{one_of, parts_at, three_of, two_of}
@@ -8,7 +8,7 @@ pub record Parts : Type 0 where
   zero_first : is_numeral (codes "01") ≡ false
   no_digit : is_numeral (codes "1:") ≡ false
   nothing : is_numeral [] ≡ false
-  -- Of more digits than are asked for the last ones.
+  -- If there are more digits than asked for, the last ones.
   last_two : last_digits 2 1234 ≡ codes "34"
   ten : last_digits 20 10 ≡ codes "10"
   nine : last_digits 1 9 ≡ codes "9"

@@ -11,7 +11,7 @@ pub parts_of-between : (text : List ℕ) → 0 < length text → parts_of text �
 parts_of-between [] some = absurd (omega arith)
 parts_of-between (byte ∷ bytes) some = refl
 
--- Items are there at each place where they are.
+-- If there is an item at each place, the list of them is there.
 pub all_some-Some : {A : Type 0} (xs : List (Option A)) (items : List A) → xs ≡ map Some items → all_some xs ≡ Some items
 unfolding all_some
 all_some-Some {A = A} xs items e = rw e (own items)

@@ -1,4 +1,4 @@
--- The parts of a text between bytes of a number: the first, the others, and the text of two.
+-- The parts of a text between bytes of a given number: the first, the others, and the text of two.
 use Rattle.std.proofs.Common.{◌≡◌, ◌++◌, ◌∷◌, [], ℕ, List, Option, Some, None, Bool, true, false, cond, not, refl, sym, ap, ◌∙◌, arith}
 use Rattle.std.specs.Prelude.{◌==◌}
 use Rattle.std.specs.List.{list_all, onto_first}
@@ -8,16 +8,16 @@ use Rattle.air_base.specs.LeadingParts.{leading_part, behind}
 use Rattle.air_base.specs.Parts.{parts_at, two_of}
 use Rattle.air_base.proofs.LeadingPartLemmas.{leading_past, behind_past, leading_behind}
 
--- A byte is another than this.
+-- The byte isn't this one.
 abbrev pub is_not : ℕ → ℕ → Bool
 is_not s c = not (c == s)
 
--- The parts behind the first one.
+-- The parts after the first one.
 abbrev pub parts_behind : ℕ → List ℕ → List (List ℕ)
 parts_behind s [] = []
 parts_behind s (y ∷ ys) = parts_at s ys
 
--- The first part stands before the first such byte.
+-- The first part is what comes before the first such byte.
 pub part_first : (s : ℕ) (xs : List ℕ) → parts_at s xs ≡ leading_part (is_not s) xs ∷ parts_behind s (behind (is_not s) xs)
 part_first s [] = refl
 part_first s (x ∷ xs) = by (x == s) (part_first s xs)
@@ -35,7 +35,7 @@ behind_is s (x ∷ xs) y ys h = by (x == s) refl h (behind_is s xs y ys)
     by true e h more = let same : x ≡ y = cc h in grind (arith, nat_tests)
     by false e h more = more h
 
--- A text without the byte is one part; else its first part stands before the byte.
+-- A text without the byte is one part; otherwise its first part is what comes before the byte.
 pub one_part : (s : ℕ) (xs : List ℕ) → list_all (is_not s) xs ≡ true → parts_at s xs ≡ xs ∷ []
 one_part s xs all =
     let f : leading_part (is_not s) xs ≡ xs = ap (leading_part (is_not s)) (sym (append-nil xs)) ∙ leading_past (is_not s) xs [] all ∙ append-nil xs in
@@ -49,7 +49,7 @@ part_then s a q all =
     let b : behind (is_not s) (a ++ s ∷ q) ≡ s ∷ q = behind_past (is_not s) a (s ∷ q) all ∙ rw e refl in
     part_first s (a ++ s ∷ q) ∙ rw (f, b) refl
 
--- Where a text has two parts, it is these with the byte between them.
+-- If a text has two parts, it is these with the byte between them.
 abbrev pub Two : ℕ → List ℕ → Option (List ℕ × List ℕ) → Type 0
 Two s xs None = Unit {0}
 Two s xs (Some sides) = xs ≡ sides.0 ++ s ∷ sides.1

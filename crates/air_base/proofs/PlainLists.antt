@@ -1,4 +1,4 @@
--- A list is read from its beginning by plain parts: what one more leaves to read.
+-- A list is read from its beginning by plain parts: what remains to be read after one more part.
 use Rattle.std.proofs.Common.{◌<◌, ◌≤◌, ◌+◌, ◌++◌, ◌∷◌, [], ℕ, List, Option, length, get_or, drop, sym, ap, ◌∙◌, arith, length-drop}
 use Rattle.std.proofs.lemmas.List.{drop_all, drop_more}
 use Rattle.air_base.specs.NumberLists.{list_of}

@@ -1,5 +1,5 @@
--- Parts read by their places: a number's digits there, what stands behind them, and what the place at which the part ends
--- leaves of the text.
+-- Parts read by their places: a number's digits at a place, what follows them, and the text from the place on at which the part
+-- ends.
 use Rattle.std.proofs.Common.{◌≡◌, ◌<◌, ◌≤◌, ◌+◌, ◌-◌, ◌++◌, ◌∷◌, [], cond, ℕ, List, Option, Some, None, IfSome, Bool, true, false, length, get_or, take, drop, refl, sym, ap, subst, ◌∙◌, arith, length-drop, replicate, zero, suc}
 use Rattle.std.specs.Char.{is_ascii_digit}
 use Rattle.std.proofs.lemmas.List.{append_cancel_right, drop-append-le, drop-drop, drop_more, get_or-drop, length-append, take_all}
@@ -9,7 +9,7 @@ use Rattle.air_base.specs.ReadParts.{PlainAt}
 use Rattle.air_base.proofs.LeadingNumbers.{digits_number, rest_read}
 use Rattle.air_base.proofs.LeadingNumberLemmas.{after_ends, ended, part_ends}
 
--- The text from a place on, as a slice has it.
+-- The text from a place on, as a slice.
 pub from_place : (text : List ℕ) (place : ℕ) → take (length text - place) (drop place text) ≡ drop place text
 from_place text place = take_all (length text - place) (drop place text) (omega (arith, length-drop place text))
 
@@ -17,7 +17,7 @@ from_place text place = take_all (length text - place) (drop place text) (omega 
 pub ends_space : (text : List ℕ) (place : ℕ) → place < length text → get_or text place 0 ≡ 32 → ends_part (drop place text) ≡ true
 ends_space text place inside space = ap ends_part (drop_more text place 0 inside ∙ ap (λ b. b ∷ drop (place + 1) text) space)
 
--- A number's digits were read at a place, and none stands behind them.
+-- A number's digits were read at a place, and no digit follows them.
 module _ (whole : List ℕ) (place behind len n : ℕ) (there : behind ≡ place + len) (read : DigitsRead (drop place whole) len n) (inside : behind ≤ length whole) (some : 0 < len)
     (alone : get_or (drop place whole) 0 0 ≡ 48 → len ≡ 1) where
   abbrev pub text : List ℕ
@@ -43,7 +43,7 @@ module _ (whole : List ℕ) (place behind len n : ℕ) (there : behind ≡ place
       let ends : ends_part (after_digits text) ≡ true = ap ends_part (rest_then stop) ∙ end in
       ((ap number_of (part_ends text ends) ∙ number_then stop, sym (rest_then stop) ∙ after_ends text ends), inside)
 
--- A text with spaces behind it has the same first part, and what follows that with the spaces behind it.
+-- A text with spaces added at its end has the same first part, and what follows that part has the spaces at its end too.
 module _ (spaces : List ℕ) (ends : ends_part spaces ≡ true) where
   first_spaced : (text : List ℕ) → first_part (text ++ spaces) ≡ first_part text
   unfolding first_part
@@ -71,7 +71,7 @@ module _ (spaces : List ℕ) (ends : ends_part spaces ≡ true) where
   last_plain value said whole copy same None plain = plain
   last_plain value said whole copy same (Some f) plain = spaced_plain value whole (said f.0, f.1) (subst (λ l. PlainAt value (l ++ spaces) 0 (said f.0, f.1)) same plain)
 
--- What is left of spaces begins with a space, or is nothing.
+-- The rest of a text of spaces is empty or begins with a space.
 pub spaces_end : (n k : ℕ) → ends_part (drop n (replicate k 32)) ≡ true
 spaces_end zero zero = refl
 spaces_end zero (suc k) = refl

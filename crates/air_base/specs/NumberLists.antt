@@ -1,28 +1,28 @@
 -- Lists as texts: parts with one space between each two, and what the parts spell.
 --
--- `list_of` says which list a text spells, `bad_part_at` where the first part begins that spells
--- nothing. Both take what a part is to spell, so lists of numbers, of writes and of events have one
--- definition. A leading, trailing or double space makes an empty part.
+-- `list_of` says which list a text spells, and `bad_part_at` where the first part begins that spells nothing. Both take as an
+-- argument what a part spells, so lists of numbers, of writes and of events have one definition. A leading, trailing or double
+-- space makes an empty part.
 use Rattle.std.specs.Prelude.{◌+◌, ℕ, List, [], ◌∷◌, Option, Some, None, length, take, map, is_none, option_map}
 use Rattle.std.specs.List.{sum_by, position, join_with_byte}
 use Rattle.air_base.specs.Parts.{parts_at}
 
--- The parts of a text: one space stands between each two, and the empty text has none.
+-- The parts of a text: one space is between each two of them, and the empty text has no part.
 abbrev pub parts_of : List ℕ → List (List ℕ)
 parts_of [] = []
 parts_of (byte ∷ bytes) = parts_at 32 (byte ∷ bytes)
 
--- The byte at which a part begins, by its number: after the parts before it and one space for each.
+-- The byte at which a part begins, by the part's number: all bytes of the parts before it, and one space for each of them.
 abbrev pub part_start : List (List ℕ) → ℕ → ℕ
 part_start parts k = sum_by (λ part. length part + 1) (take k parts)
 
--- The items, where there is one at each place.
+-- The items, if there is one at each place.
 unfoldable pub all_some : {A : Type 0} → List (Option A) → Option (List A)
 all_some [] = Some []
 all_some (None ∷ more) = None
 all_some (Some item ∷ more) = option_map (λ items. item ∷ items) (all_some more)
 
--- The list that the text spells, where each of its parts spells an item.
+-- The list that the text spells, if each of its parts spells an item.
 abbrev pub list_of : {A : Type 0} → (List ℕ → Option A) → List ℕ → Option (List A)
 list_of item text = all_some (map item (parts_of text))
 

@@ -1,8 +1,8 @@
-//! Leading digits of a text, read from a place on: up to four at a time, and one by one where the text has fewer than
-//! four bytes left or the number fifteen digits.
+//! Leading digits of a text, read from a place on: up to four at a time, or one by one if the text has fewer than four bytes
+//! left or the number has fifteen digits.
 //!
-//! A digit's byte is its value and 48 more, which is taken off once a number: two digits have 48 * 11 = 528 too much, three
-//! 48 * 111 = 5,328, and four 48 * 1,111 = 53,328.
+//! A digit's byte is its value plus 48. The surplus is subtracted once for each number: two digits have 48 * 11 = 528 too much,
+//! three 48 * 111 = 5,328, and four 48 * 1,111 = 53,328.
 
 ghost use Rattle.std.specs.Prelude.{◌≡◌, ◌==◌, ◌<◌, ◌≤◌, ◌+◌, ◌*◌, ◌^◌, get_or, length, IfSome, IsTrue, MatchOption, None, false};
 ghost use Rattle.std.specs.Char.{is_ascii_digit};
@@ -19,7 +19,7 @@ fn is_digit(byte: u64) -> bool
     48 <= byte && byte <= 57
 }
 
-/// Whether a byte is a zero's: a call of its own, so that it lies beside the common way.
+/// Whether a byte is a zero's. It is a call of its own, so that the usual path doesn't contain it.
 #[cold]
 #[inline(never)]
 fn is_zero(byte: u64) -> bool
@@ -28,7 +28,7 @@ fn is_zero(byte: u64) -> bool
     byte == 48
 }
 
-/// The number of one to three digits at a place, and the place behind them: behind a zero in front there is none more.
+/// The number of one to three digits at a place, and the place after them. After a leading zero no more digits are read.
 #[inline(always)]
 pub fn short_number(text: &[u8], place: usize) -> Option<(u64, usize)>
     requires { place + 4 ≤ length text.now }
@@ -54,7 +54,7 @@ pub fn short_number(text: &[u8], place: usize) -> Option<(u64, usize)>
     Some((tens * 10 + three - 5328, place + 3))
 }
 
-/// The number with the digits from this place on at its end, up to four of them, and how many they are.
+/// The number with up to four digits from this place on appended, and how many they are.
 #[inline(always)]
 fn with_four(text: &[u8], place: usize, number: u64) -> (u64, usize)
     requires within { place + 4 ≤ length text.now }
@@ -86,8 +86,8 @@ fn with_four(text: &[u8], place: usize, number: u64) -> (u64, usize)
     (more * 10 + four - 53_328, 4)
 }
 
-/// More digits of a number of which so many were read, four at a time: its value so far, how many were read, and whether
-/// these are all.
+/// Appends digits four at a time to a number of which some were read: gives its value so far, how many digits were read, and
+/// whether these are all.
 #[inline(always)]
 fn with_fours(text: &[u8], from: usize, read: u64) -> (u64, usize, bool)
     requires within { from ≤ length text.now }
@@ -110,7 +110,7 @@ fn with_fours(text: &[u8], from: usize, read: u64) -> (u64, usize, bool)
     (number, place, false)
 }
 
-/// The number with one more digit at its end, and None where that is above the greatest.
+/// The number with one more digit at its end; None if that is above the greatest.
 fn with_digit(number: u64, digit: u8) -> Option<u64>
     requires { digit < 10 }
     ensures { SomeIff result (number * 10 + digit < 2 ^ 64) (number * 10 + digit) }
@@ -122,7 +122,7 @@ fn with_digit(number: u64, digit: u8) -> Option<u64>
     Some(number * 10 + u64::from(digit))
 }
 
-/// The value of all leading digits, of which so many were read, and their number: the others are read one by one.
+/// The value of all leading digits and how many they are, where some were read already: the others are read one by one.
 #[inline(never)]
 fn one_by_one(text: &[u8], from: usize, read: u64) -> Option<(u64, usize)>
     requires within { from ≤ length text.now }
@@ -142,7 +142,7 @@ fn one_by_one(text: &[u8], from: usize, read: u64) -> Option<(u64, usize)>
     Some((number, text.len()))
 }
 
-/// The value of all leading digits, of which so many were read, and their number: none where the value is too great.
+/// The value of all leading digits and how many they are, where some were read already; None if the value is too great.
 #[inline(always)]
 pub fn all_digits(text: &[u8], from: usize, read: u64) -> Option<(u64, usize)>
     requires within { from ≤ length text.now }

@@ -1,7 +1,7 @@
 //! The leading number of a text, and what follows it.
 //!
-//! A list is read from its beginning, one part after the other, with no memory: a reader gives the value of the first part
-//! and the text behind it, which is empty or begins with a space. Every number of a deck, and of any list, is read by these.
+//! A list is read from its beginning, one part after another, without taking memory. Each call gives the value of the first
+//! part and the text after it, which is empty or begins with a space. All numbers of decks and lists are read by these calls.
 
 ghost use Rattle.std.specs.Prelude.{◌≡◌, ◌≤◌, ◌∷◌, get_or, length, option_map, MatchOption, Some, None, false};
 ghost use Rattle.std.specs.Char.{is_ascii_digit};
@@ -22,7 +22,7 @@ pub fn ends_part(text: &[u8]) -> bool
     }
 }
 
-/// The text behind this byte, where the text begins with it.
+/// The text after this byte, if the text begins with it.
 pub fn after_byte(text: &[u8], byte: u8) -> Option<&[u8]>
     ensures { MatchOption result (begins byte text.now ≡ false) (λ rest. text.now ≡ byte ∷ rest.now) }
 {
@@ -32,7 +32,7 @@ pub fn after_byte(text: &[u8], byte: u8) -> Option<&[u8]>
     }
 }
 
-/// The number of the leading digits, where these are so many and have this value; what follows them.
+/// The number of the leading digits, whose count and value are known, and what follows them.
 #[inline(always)]
 fn with_number(text: &[u8], len: usize, number: u64) -> Option<(u64, &[u8])>
     requires within { len ≤ length text.now }
@@ -49,7 +49,7 @@ fn with_number(text: &[u8], len: usize, number: u64) -> Option<(u64, &[u8])>
     Some((number, &text[len..]))
 }
 
-/// The number that the leading digits spell, whatever follows them.
+/// The number that the leading digits spell, and what follows them.
 #[inline(always)]
 pub fn leading_number(text: &[u8]) -> Option<(u64, &[u8])>
     ensures { MatchOption result (number_of (digits_of text.now) ≡ None) (λ f. (number_of (digits_of text.now) ≡ Some f.0) × (f.1.now ≡ after_digits text.now)) }
@@ -64,7 +64,7 @@ pub fn leading_number(text: &[u8]) -> Option<(u64, &[u8])>
     with_number(text, len, number)
 }
 
-/// The number that the first part spells.
+/// The number that the first part spells, and what follows it.
 #[tactic(auto, using(crate::proofs::LeadingNumberLemmas::part_ends, crate::proofs::LeadingNumberLemmas::after_ends, crate::proofs::LeadingNumberLemmas::part_goes_on, crate::proofs::LeadingNumberLemmas::no_digits))]
 #[inline(always)]
 pub fn read_leading_number(text: &[u8]) -> Option<(u64, &[u8])>

@@ -1,9 +1,9 @@
-//! The types that every crate shares, and the texts of numbers and lists.
+//! The types that all crates share, and the texts of numbers and lists.
 //!
-//! Nothing here knows what a deck, a history or a receiver is. `memory` has the one free answer, `limits`
-//! how much there may be of each thing, `verdicts` what a receiver decides and counts, `lists` the lists that other types hold, `texts` and
-//! `number_lists` how numbers and lists of them are read and written. `digits`, `leading_numbers` and
-//! `plain_numbers` read the numbers of any text, part by part.
+//! Nothing here knows what a deck, a history or a receiver is. `memory` has the answer "out of memory", `limits` how much there
+//! may be of each thing, `verdicts` what a receiver decides and counts, and `lists` the lists that other types hold. `texts`
+//! and `number_lists` say how numbers and lists of them are read and written. `digits`, `leading_numbers` and `plain_numbers`
+//! read the numbers of any text, part by part.
 #![tactic(auto)]
 
 mod digits;

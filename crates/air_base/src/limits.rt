@@ -1,5 +1,5 @@
-//! The limits of decks, programs and files, and the two settings whose value isn't 0 where a deck says none. Each is written
-//! here alone: clauses and definitions cite it from here.
+//! The limits of decks, programs and files, and the two settings whose value isn't 0 if a deck doesn't give them. Each is
+//! written only here: clauses and definitions refer to it.
 
 /// The most items of a deck.
 pub const MOST_ITEMS: usize = 1_024;
@@ -7,7 +7,7 @@ pub const MOST_ITEMS: usize = 1_024;
 /// The most items of a deck whose buckets have their entries in full, with four bytes each.
 pub const MOST_FULL_ITEMS: usize = 256;
 
-/// From how many cycles on an entry is too old for an age, which has one byte. Reads that lie so many cycles apart can't be
+/// From this many cycles on an entry is too old for an age, which has one byte. Reads whose cycles are this far apart can't be
 /// judged by ages.
 pub const AGE_CAP: u32 = 255;
 
@@ -71,16 +71,16 @@ pub const MOST_EVENTS: usize = 200_000;
 /// The most cycles that a script starts.
 pub const MOST_STARTS: u32 = 10_000;
 
-/// By how much the frequencies of two disks that say none differ at most.
+/// How much the frequencies of two disks that give none differ at most.
 pub const MOST_DELTA: u64 = 9;
 
 /// The most cycles of a run.
 pub const MOST_CYCLES: u64 = 10_000;
 
-/// The cycles of a run whose deck says none.
+/// The cycles of a run whose deck gives none.
 pub const DEFAULT_CYCLES: u64 = 10;
 
-/// The greatest share of buckets that are lost, heard again or late, in a hundred.
+/// The greatest share of buckets that are lost, heard again or delayed, in percent.
 pub const MOST_SHARE: u64 = 100;
 
 /// The most monitors.
@@ -89,7 +89,7 @@ pub const MOST_MONITORS: u64 = 16;
 /// The most calls of `hear`.
 pub const MOST_HEARS: u64 = 100_000_000;
 
-/// The most calls of `hear` where the deck says nothing of them.
+/// The most calls of `hear` if the deck doesn't give it.
 pub const DEFAULT_HEARS: u64 = 1_000_000;
 
 /// The most slots of a program.
@@ -98,7 +98,7 @@ pub const MOST_SLOTS: u64 = 16_384;
 /// The most bytes of a deck's text.
 pub const MOST_DECK_BYTES: usize = 67_108_864;
 
-/// The most bytes of a datagram, and so of a bucket that goes over the air.
+/// The most bytes of a datagram, and so of a bucket that goes on the air.
 pub const MOST_DATAGRAM_BYTES: usize = 65_507;
 
 /// The most bytes of a tape.

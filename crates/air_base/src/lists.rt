@@ -1,13 +1,13 @@
 //! Lists as other types hold them: each is seen by contracts as the list of its items.
 //!
-//! A `Vec` becomes such a list, and a list lends its items, without taking memory.
+//! A `Vec` becomes such a list, and a list lends its items, both without taking memory.
 
 ghost use Rattle.std.specs.Prelude.{◌≡◌, ◌<◌, length, set};
 
 use crate::verdicts::ReadOf;
 use std::marker::Model;
 
-/// A list of values, as the values that an update read or wrote.
+/// A list of values, such as the values that an update read or wrote.
 #[derive(Debug, Drop)]
 pub struct Values {
     items: Vec<u64>,
@@ -36,7 +36,7 @@ impl Values {
         &self.items
     }
 
-    /// Puts a value in the place of another.
+    /// Replaces the value at a place.
     pub fn put(&mut self, place: usize, value: u64)
         requires { place < length self.old }
         ensures { self.new ≡ set self.old place value }
@@ -45,7 +45,7 @@ impl Values {
     }
 }
 
-/// A list of reads, as the reads of an attempt in the order of reading.
+/// A list of reads, such as the reads of an attempt in the order of reading.
 #[derive(Debug, Drop)]
 pub struct Reads {
     items: Vec<ReadOf>,

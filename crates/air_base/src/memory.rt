@@ -16,7 +16,7 @@ impl From<AllocError> for NoMemory {
     }
 }
 
-/// What could not be stored, as by `Vec::push`, is let go.
+/// What could not be stored, as by `Vec::push`, is dropped.
 impl<T: Drop> From<AllocFailed<T>> for NoMemory {
     ghost from_gives = { λ _ e. e ≡ record {} };
 

@@ -1,7 +1,7 @@
 //! Lists of numbers as texts: parts with one space between each two.
 //!
-//! The empty text is the empty list. A leading, trailing or double space makes an empty part, which
-//! spells no number. The first part that spells none is reported by the byte at which it begins.
+//! The empty text is the empty list. A leading, trailing or double space makes an empty part, which spells no number. For the
+//! first part that spells none, the answer is the byte at which it begins.
 
 ghost use Rattle.std.specs.Prelude.{◌≡◌, ◌↔◌, ◌<◌, ◌^◌, ℕ, List, length, map, All, Some, IsNone, IsSome, IfOk, IfErr};
 ghost use Rattle.air_base.specs.Numbers.{number_of, number_text};
@@ -83,7 +83,7 @@ pub fn list_text_spells_law()
     ensures { (ns : List ℕ) → All (λ n. n < 2 ^ 64) ns → list_of number_of (list_text (map number_text ns)) ≡ Some ns }
 {}
 
-/// No other text spells them.
+/// No other text spells these numbers.
 pub fn one_list_spelling_law()
     ensures { (text ns : List ℕ) → list_of number_of text ≡ Some ns → text ≡ list_text (map number_text ns) }
 {}

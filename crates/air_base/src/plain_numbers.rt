@@ -1,8 +1,8 @@
 //! Plain numbers of a list, read by their places in it.
 //!
-//! A plain number has at most three digits, or more with the common way first, and a space or the list's end behind it. What
-//! isn't plain is left to the readers of `leading_numbers`: so none says nothing of the part. The last part of a list, where it
-//! is too near to the end for the readers by place, is read from a copy with spaces behind it.
+//! A plain number is followed by a space or the list's end. `plain_short` takes at most three digits; `plain_number` takes
+//! longer numbers too. Parts that aren't plain are left to the calls of `leading_numbers`, so None says nothing about the part.
+//! The last part of a list may be too near to the end for the calls by place: it is then read from a copy with spaces after it.
 
 ghost use Rattle.std.specs.Prelude.{◌<◌, ◌≤◌, ◌+◌, length, IfSome};
 ghost use Rattle.air_base.specs.Numbers.{number_of};
@@ -11,7 +11,7 @@ ghost use Rattle.air_base.specs.ReadParts.{PlainAt};
 use crate::digits::{all_digits, short_number};
 use crate::leading_numbers::ends_part;
 
-/// The number of a plain part, where it has at most three digits, and the place at which the part ends.
+/// The number of a plain part, if it has at most three digits, and the place at which the part ends.
 #[inline(always)]
 pub fn plain_short(text: &[u8], place: usize) -> Option<(u64, usize)>
     requires { place + 4 ≤ length text.now }
@@ -45,7 +45,7 @@ pub fn plain_number(text: &[u8], place: usize) -> Option<(u64, usize)>
     Some((number, end))
 }
 
-/// The number of the plain part that a short text begins with, and the place at which the part ends.
+/// The number of the plain part at the beginning of a short text, and the place at which the part ends.
 #[inline(always)]
 pub fn last_short(text: &[u8]) -> Option<(u64, usize)>
     requires { length text.now < 4 }

@@ -9,7 +9,7 @@ ghost use Rattle.air_base.specs.Numbers.{number_of, number_text};
 use crate::leading_numbers::leading_number;
 use crate::memory::NoMemory;
 
-/// The number that the text spells, and None where it spells none.
+/// The number that the text spells; None if it spells none.
 pub fn read_u64(text: &[u8]) -> Option<u64>
     ensures { result ≡ number_of text.now }
 {
@@ -37,7 +37,7 @@ pub fn text_spells_law()
     ensures { (n : ℕ) → n < 2 ^ 64 → number_of (number_text n) ≡ Some n }
 {}
 
-/// No other text spells it.
+/// No other text spells that number.
 pub fn one_spelling_law()
     ensures { (text : List ℕ) (n : ℕ) → number_of text ≡ Some n → text ≡ number_text n }
 {}

@@ -1,6 +1,6 @@
 //! What a receiver decides and counts: policies, reads, clashes, verdicts.
 //!
-//! Plain data with public fields. An item is its number in the catalog, a cycle is counted from 1.
+//! Plain data with public fields. An item is given by its number in the catalog; cycles are counted from 1.
 
 /// How a receiver judges the reads of a query.
 #[derive(Clone, Copy, Debug, PartialEq, Eq)]
@@ -13,8 +13,8 @@ pub enum Policy {
     RMatrix,
 }
 
-/// How a deck's buckets are made: by which policy receivers judge them, which decides the entries, and in which version they are
-/// spelled.
+/// How a deck's buckets are made: the policy by which receivers judge them, which decides the entries, and the version in which
+/// they are spelled.
 #[derive(Clone, Copy, Debug, PartialEq, Eq)]
 pub struct Form {
     pub policy: Policy,
@@ -30,7 +30,7 @@ pub struct ReadOf {
     pub value: u64,
 }
 
-/// The held read with which a new one does not go together.
+/// The held read with which a new one clashes.
 #[derive(Clone, Copy, Debug, PartialEq, Eq)]
 pub struct Clash {
     pub item: u16,
@@ -44,7 +44,7 @@ pub enum VerdictKind {
     Accept,
     /// The read of this item in this cycle clashes with the held read of the item `clash`.
     Abort { item: u16, cycle: u32, clash: u16 },
-    /// The read of this item in this cycle and the held ones lie too far apart to be judged by ages.
+    /// The cycles of the new read and of the held ones are too far apart to be judged by ages.
     Aged { item: u16, cycle: u32 },
     /// What the receiver heard ended before the query did.
     Unfinished,
@@ -65,7 +65,7 @@ pub struct Counts {
     pub opened: u64,
     /// Buckets that were not wanted, or idle.
     pub dozed: u64,
-    /// Buckets of an older cycle than the last read, where the policy takes none.
+    /// Buckets of an older cycle than the last read, if the policy takes none of these.
     pub late: u64,
     /// Bytes that are no bucket.
     pub refused: u64,

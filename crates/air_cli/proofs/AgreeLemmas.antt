@@ -1,4 +1,4 @@
--- Where an audit finds no difference, the replay gives every line of the report, and the other way round.
+-- An audit finds no difference if and only if the replay gives every line of the report.
 use Rattle.std.proofs.Common.{◌≡◌, ◌↔◌, ℕ, Bool, true, false, List, [], ◌∷◌, ◌++◌, Option, None, length, get_or, All, refl, ap, sym, ◌∙◌, arith}
 use Rattle.std.proofs.lemmas.List.Elements.{All-cons, All-head, All-nil, All-tail}
 use Rattle.std.proofs.lemmas.List.FromFn.{length-range_with_len}
@@ -32,7 +32,7 @@ all_right P (x ∷ xs) ys h = all_right P xs ys (All-tail P x (xs ++ ys) h)
 abbrev Agrees : Finding → Type 0
 Agrees found = found.differs ≡ None
 
--- Where there is a row for each line and no finding differs, no line has a cause.
+-- If there is a row for each line and no finding differs, no line has a cause.
 no_cause : {L : Type 0} (cause : L → Option Cause) (rows : List ℕ) (lines : List L) → length rows ≡ length lines → All Agrees (found_in cause rows lines) → All (λ l. cause l ≡ None) lines
 no_cause cause rows [] long h = All-nil (λ l. cause l ≡ None)
 no_cause cause [] (l ∷ lines) long h = absurd (omega (arith, long))
@@ -40,7 +40,7 @@ no_cause cause (row ∷ rows) (l ∷ lines) long h =
     All-cons (λ l. cause l ≡ None) l lines (All-head Agrees (record { row = row; differs = cause l }) (found_in cause rows lines) h)
     (no_cause cause rows lines (omega (arith, long)) (All-tail Agrees (record { row = row; differs = cause l }) (found_in cause rows lines) h))
 
--- The status of a text is 0 exactly where it doesn't differ.
+-- The status of a text is 0 if and only if it doesn't differ.
 ends_well : (differs : Bool) → (given_status differs ≡ status.Ok) ↔ (differs ≡ false)
 ends_well false = (λ ends. refl, λ same. refl)
 ends_well true = (λ ends. cc, λ same. cc)
@@ -70,7 +70,7 @@ module _ (d : Deck) (bytes : List ℕ) (read : ReadReport) (is : IsReportOf d by
         λ k e below. (audit.looks (get_or r.looks k e)).0 (looks k e below),
       )
 
-  -- The audit ends with status 0 exactly where the replay gives every line.
+  -- The audit ends with status 0 if and only if the replay gives every line.
   pub ends_given : (s : Status) → s ≡ given_status (some_differ (findings d read)) → (s ≡ status.Ok) ↔ AllGiven
   ends_given s ends = (
     λ ok. all_given (audit.none.0 ((ends_well (some_differ (findings d read))).0 (sym ends ∙ ok))),

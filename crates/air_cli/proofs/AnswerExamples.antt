@@ -1,4 +1,4 @@
--- What statuses of the top call say on the told shelf: where each relation holds, and where it doesn't.
+-- What statuses of the top call mean on the told shelf: positive and negative examples of each relation.
 use Rattle.std.proofs.Common.{◌≡◌, ◌≤◌, ℕ, Bool, true, false, List, [], Option, Some, None, length, refl, sym, ap, subst, inl, inr, arith}
 use Rattle.std.specs.Prelude.{codes, if◌then◌else◌, nat_eq}
 use Rattle.std.specs.Prelude.{◌⊎◌}
@@ -15,13 +15,13 @@ use Rattle.air_model.specs.Rows.{rows_text}
 use Rattle.air_report.specs.declared.status.Status.TheVariants as status
 use Rattle.live_replay.proofs.AuditExamples.{small}
 use Rattle.air_cli.specs.Answers.{Completes, HasBegun, InputFailed, IsDone, IsWanting, Leaves, NoCountRose, OutputFailed, PrintFailed, QuietAnswers}
-use Rattle.air_cli.specs.Deliveries.{IsGiven, IsGivenInPart}
+use Rattle.air_cli.specs.Deliveries.{IsBeginningGiven, IsGiven}
 use Rattle.air_cli.specs.ReportsAndTapes.{ReportAndTape, given_status}
 use Rattle.air_cli.specs.Meanings.{Meaning}
 use Rattle.air_cli.specs.NamedDecks.{DeckCause}
 use Rattle.air_cli.specs.NamedFiles.{UnreadCause}
 use Rattle.air_cli.specs.OnAir.{LeavesEar, LeavesMast}
-use Rattle.air_cli.specs.Outputs.{OutputHolds, OutputHoldsPart}
+use Rattle.air_cli.specs.Outputs.{OutputHolds, OutputHoldsBeginning}
 use Rattle.air_cli.specs.Plan.{plan_meaning}
 use Rattle.air_cli.specs.Refusals.{IsSteady, PrintsUnlessFailed}
 use Rattle.air_cli.specs.RunnableDecks.{UnrunnableCause}
@@ -77,23 +77,23 @@ holds = (refl, tt)
 not_holds : OutputHolds (Some (codes "o")) (codes "ab") shelf (holding (codes "abc") shelf) → ⊥
 not_holds h = let same : codes "abc" ≡ codes "ab" = cc in let n : 3 ≡ 2 = ap length same in omega (arith, n)
 
-holds_part : OutputHoldsPart (codes "o") (codes "ab") shelf (holding (codes "a") shelf) × OutputHoldsPart (codes "o") (codes "ab") shelf shelf
+holds_part : OutputHoldsBeginning (codes "o") (codes "ab") shelf (holding (codes "a") shelf) × OutputHoldsBeginning (codes "o") (codes "ab") shelf shelf
 holds_part = (inr (1, refl), inl refl)
 
 given : IsGiven None (plan_given small) shelf (with_printed (plan_output small))
 given = record { written = tt; printed = refl }
 
-given_in_part : IsGivenInPart None (plan_given small) shelf shelf
+given_in_part : IsBeginningGiven None (plan_given small) shelf shelf
 given_in_part = record { written = tt; printed = (0, refl) }
 
 -- More than the text isn't a part of it.
-not_given_in_part : IsGivenInPart (Some (codes "o")) (record { text = codes "ab"; tape = codes "t"; differs = false }) shelf shelf → ⊥
+not_given_in_part : IsBeginningGiven (Some (codes "o")) (record { text = codes "ab"; tape = codes "t"; differs = false }) shelf shelf → ⊥
 not_given_in_part h = let written : Some [] ≡ Some (codes "t") = h.written in cc
 
 prints : PrintsUnlessFailed (codes "ab") shelf (with_printed (codes "ab")) × PrintsUnlessFailed (codes "ab") shelf (print_failed (with_printed (codes "a")))
 prints = (record { part = (2, refl); whole = λ calm. refl }, record { part = (1, refl); whole = λ calm. absurd (calm (inl (omega arith))) })
 
--- A part is printed only where a print failed.
+-- Only a part is printed only if a print failed.
 not_prints : PrintsUnlessFailed (codes "ab") shelf (with_printed (codes "a")) → ⊥
 not_prints h = let whole : codes "a" ≡ codes "ab" = h.whole no_rise in let n : 1 ≡ 2 = ap length whole in omega (arith, n)
 
@@ -125,7 +125,7 @@ not_refusal : (IsRefusal status.ReadFault shelf shelf → ⊥) × (IsRefusal sta
 unfolding rows_text number_text escaped fields_text is_blank
 not_refusal = (λ h. let whole : [] ≡ codes "fault,3\n" = h.line.whole no_rise in cc, λ h. not_keeps_outputs h.outputs)
 
--- ---- what each status says
+-- ---- what each status means
 
 done : IsDone plan shelf (deck_read (plan_output small)) status.Ok
 done = record {
@@ -134,7 +134,7 @@ done = record {
   calm = record { reading = λ name. refl; writing = λ name. refl; printing = refl };
 }
 
--- Not where a count rose, nor where the deck was left to read, nor with another status.
+-- The command didn't succeed if a count went up, if the deck was left to read, or with another status.
 not_done : (IsDone plan shelf (print_failed (deck_read (plan_output small))) status.Ok → ⊥)
     × (IsDone plan shelf (with_printed (plan_output small)) status.Ok → ⊥) × (IsDone plan shelf (deck_read (plan_output small)) status.WriteFault → ⊥)
 not_done = (
@@ -169,7 +169,7 @@ not_output_failed now h = let named : None ≡ Some h.name = h.named in cc
 print_failed_part : PrintFailed plan shelf (print_failed shelf)
 print_failed_part = record { rose = inl (omega arith); gives = (plan_given small, plan_gives, given_in_part_failed) }
   where
-    given_in_part_failed : IsGivenInPart None (plan_given small) shelf (print_failed shelf)
+    given_in_part_failed : IsBeginningGiven None (plan_given small) shelf (print_failed shelf)
     given_in_part_failed = record { written = tt; printed = (0, refl) }
 
 not_print_failed : PrintFailed plan shelf shelf → ⊥
@@ -200,7 +200,7 @@ not_begun now h = let pieces : false ≡ true = h.pieces in cc
 wanting : IsWanting plan shelf shelf
 wanting = record { untouched = inl (record { printed = refl; outputs = λ name. refl }); counts = inl keeps }
 
--- Out of memory prints nothing, and no count rises but that of a failed read.
+-- Out of memory, nothing is printed, and no count goes up except that of a failed read.
 not_wanting : (IsWanting plan shelf (with_printed (codes "a")) → ⊥) × (IsWanting plan shelf (print_failed shelf) → ⊥)
 not_wanting = (λ h. printed h.untouched, λ h. risen h.counts)
   where
@@ -223,7 +223,7 @@ count_rose h = h.printing (inl (omega arith))
 completes : Completes plan shelf shelf status.Ok
 completes tells suits calm = inl (plan_given small, plan_gives, refl)
 
--- With another status it didn't, where its told inputs suit it and no count rose: all three hold of the told shelf.
+-- It doesn't complete with another status: on the told shelf its inputs are told and suit it, and no count went up.
 not_completes : Completes plan shelf shelf status.ReadFault → ⊥
 not_completes h = by (h tells_plan plan_suits no_count_rose)
   where
@@ -257,7 +257,7 @@ tuned = record fresh_ear { port = Some 7 }
 leaves_mast : LeavesMast None shelf fresh_mast fresh_mast × LeavesMast (Some (AsksCast (codes "d") 7)) shelf fresh_mast fresh_mast
 leaves_mast = (refl, inl refl)
 
--- No other call than `cast` aims a mast, and `listen` alone tunes an ear.
+-- No other call than `cast` aims a mast, and only `listen` tunes an ear.
 not_leaves_mast : (LeavesMast None shelf fresh_mast aimed → ⊥) × (LeavesMast (Some (AsksListen (codes "d") 7)) shelf fresh_mast aimed → ⊥)
 not_leaves_mast = (λ h. let port : ◌≡◌ {A = Option ℕ} (Some 7) None = ap (λ (m : MastState). m.port) h in cc, λ h. let port : ◌≡◌ {A = Option ℕ} (Some 7) None = ap (λ (m : MastState). m.port) h in cc)
 

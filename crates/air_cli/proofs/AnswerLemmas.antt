@@ -1,15 +1,15 @@
--- From what a command gave to what its status says.
+-- From what a command gave to what its status means.
 use Rattle.std.proofs.Common.{◌≡◌, ℕ, false, List, [], Option, Some, None, take, ap, sym, ◌∙◌, subst, inl, inr}
 use Rattle.std.specs.Io.KnownBytes.{Appends, IsAtEnd}
 use Rattle.air_devices.specs.Counts.{KeepsCounts, Rose}
-use Rattle.air_devices.specs.WhatIsTold.{AppendsPart, Becomes}
+use Rattle.air_devices.specs.WhatIsTold.{AppendsBeginning, Becomes}
 use Rattle.air_devices.specs.Shelves.{ShelfState}
 use Rattle.air_report.specs.declared.status.Status.{Status}
 use Rattle.air_report.specs.declared.status.Status.TheVariants as status
 use Rattle.air_cli.specs.Meanings.{Meaning}
 use Rattle.air_cli.specs.Private.BeforeDelivery.{IsMade, ReadsInputs}
 use Rattle.air_cli.specs.ReportsAndTapes.{ReportAndTape, given_status}
-use Rattle.air_cli.specs.Outputs.{OutputHolds, OutputHoldsPart}
+use Rattle.air_cli.specs.Outputs.{OutputHolds, OutputHoldsBeginning}
 use Rattle.air_cli.specs.Deliveries.{KeepsButDelivered, Delivers, IsGiven}
 use Rattle.air_cli.specs.Answers.{IsDone, QuietAnswers}
 use Rattle.air_cli.proofs.CountLemmas.{kept_twice}
@@ -25,7 +25,7 @@ holds_since : (output : Option (List ℕ)) (bytes : List ℕ) (before mid now : 
 holds_since None bytes before mid now same h = tt
 holds_since (Some name) bytes before mid now same h = subst (λ o. Becomes o (now.told.output name) bytes) (same name) h
 
-holds_part_since : (name bytes : List ℕ) (before mid now : ShelfState) → mid.told.output name ≡ before.told.output name → OutputHoldsPart name bytes mid now → OutputHoldsPart name bytes before now
+holds_part_since : (name bytes : List ℕ) (before mid now : ShelfState) → mid.told.output name ≡ before.told.output name → OutputHoldsBeginning name bytes mid now → OutputHoldsBeginning name bytes before now
 holds_part_since name bytes before mid now same (inl kept) = inl (kept ∙ same)
 holds_part_since name bytes before mid now same (inr (n, part)) = inr (n, subst (λ o. Becomes o (now.told.output name) (take n bytes)) same part)
 
@@ -70,7 +70,7 @@ answers_made command work before mid now status.WriteFault made reads (inr (rose
     made.gives,
     record {
       written = holds_since command.output work.tape before mid now reads.outputs part.written;
-      printed = subst (λ o. AppendsPart o now.told.printed work.text) reads.printed part.printed;
+      printed = subst (λ o. AppendsBeginning o now.told.printed work.text) reads.printed part.printed;
     },
   );
 })

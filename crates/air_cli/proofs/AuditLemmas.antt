@@ -37,7 +37,7 @@ use Rattle.air_cli.proofs.RefusalLemmas.{IsSound, deck_still, unread_still}
 
 -- ---- why there is no audit
 
--- A deck that isn't had has no report audited.
+-- No report is audited if there is no deck.
 pub deck_audit : (deck report : List ℕ) (before now : ShelfState) (s : Status) → DeckCause deck before now s → AuditCause deck report before now s
 unfolding AuditCause DeckCause UnreadCause
 deck_audit deck report before now (status.Report row kind) h = absurd h
@@ -56,11 +56,11 @@ pub told_first : (report : List ℕ) (before mid : ShelfState) (bytes read : Lis
     → ToldIs (before.told.file report) read
 told_first report before mid bytes read known same is = subst (λ file. ToldIs file read) same (subst (ToldIs (mid.told.file report)) (sym is) known)
 
--- This is so of the named deck, and of the bytes of the named report, where they are told.
+-- If the files are told, the named deck and the bytes of the named report have this property.
 abbrev OfReport : List ℕ → List ℕ → ShelfState → (Deck → List ℕ → Type 0) → Type 0
 OfReport deck report before P = OfDeck deck before (λ d. WhereTold (before.told.file report) (λ bytes. (length bytes ≤ MOST_REPORT_BYTES) × P d bytes))
 
--- Where the files are told, what is so of the deck and of the report that there are is so of those that they spell.
+-- If the files are told, what holds of the deck and of the report holds of those that the files spell.
 of_report : (deck report : List ℕ) (before : ShelfState) (P : Deck → List ℕ → Type 0) → HasReport deck report before P → OfReport deck report before P
 of_report deck report before P (d, spells, made, has) = of_deck deck before d (λ d. WhereTold (before.told.file report) (λ bytes. (length bytes ≤ MOST_REPORT_BYTES) × P d bytes)) spells
     (of_bytes report before (λ bytes. (length bytes ≤ MOST_REPORT_BYTES) × P d bytes) has)
@@ -163,7 +163,7 @@ audit_sound deck report = record {
 
 -- ---- what its inputs decide
 
--- What is so of the named files is so of the deck that the told bytes spell, and of the report's told bytes.
+-- What holds of the named files holds of the deck that the told bytes spell, and of the report's told bytes.
 both_told : (deck report : List ℕ) (before : ShelfState) (db rb : List ℕ) (P : Deck → List ℕ → Type 0) → before.told.file deck ≡ Some db → before.told.file report ≡ Some rb
     → OfReport deck report before P → (d : Deck) × Spells db d × (length rb ≤ MOST_REPORT_BYTES) × P d rb
 both_told deck report before db rb P first second h =
@@ -171,7 +171,7 @@ both_told deck report before db rb P first second h =
     let y = of_told (before.told.file report) rb (λ bytes. (length bytes ≤ MOST_REPORT_BYTES) × P x.1.0 bytes) second x.1.2 in
     (x.1.0, x.1.1, y.0, y.1)
 
--- So it is of one deck where two things are so.
+-- If two things hold, they hold of one deck.
 one_told : (deck report : List ℕ) (before other : ShelfState) (db rb : List ℕ) (P Q : Deck → List ℕ → Type 0) → before.told.file deck ≡ Some db → before.told.file report ≡ Some rb
     → other.told.file deck ≡ Some db → other.told.file report ≡ Some rb → OfReport deck report before P → OfReport deck report other Q → (d : Deck) × P d rb × Q d rb
 one_told deck report before other db rb P Q first second first2 second2 p q =
@@ -216,7 +216,7 @@ audit_fits deck report before now s told suits calm (inr h) =
 same_found : (d : Deck) (bytes : List ℕ) (a b : List Finding) → IsAudit d bytes a → IsAudit d bytes b → a ≡ b
 same_found d bytes a b first second = first.are ∙ ap (findings d) (one_report d bytes first.read second.read first.is second.is) ∙ sym second.are
 
--- Where both files are told, all of it is so of the deck and of the report that they spell.
+-- If both files are told, all of it holds of the deck and of the report that they spell.
 audit_told : (deck report : List ℕ) (before : ShelfState) (given : ReportAndTape) → AuditGives deck report before given
     → (found : List Finding) × (given ≡ audit_given found) × OfReport deck report before (λ d bytes. IsAudit d bytes found)
 unfolding AuditGives

@@ -42,7 +42,7 @@ unrunnable_cast deck to mast before now (status.AirFault at) h = absurd h
 unrunnable_cast deck to mast before now status.NoMemory h = tt
 unrunnable_cast deck to mast before now s h = (unrunnable_run deck before now s h, refl)
 
--- Nor is one whose tape would be too long; and a mast may fail.
+-- A deck whose tape would be too long isn't cast either; and a mast may fail.
 pub refused_cast : (deck : List ℕ) (to : ℕ) (old new : MastState) (before now : ShelfState) (d : Deck) (s : Status) → SpellsDeck deck before d → IsDeck d → HasShortPrograms d
     → IsCastRefusal d to old new s → CastCause deck to old new before now s
 unfolding CastCause RunCause UnrunnableCause DeckCause UnreadCause IsCastRefusal
@@ -83,7 +83,7 @@ cast_facts deck to old new = record {
 
 -- ---- what was sent
 
--- A count that rose didn't fall.
+-- A count that went up didn't go down.
 pub rose_later : (before now : ℕ) → Rose before now → before ≤ now
 rose_later before now (inl less) = omega arith
 rose_later before now (inr last) = let stays = last.1 in omega arith
@@ -93,12 +93,12 @@ pub all_cast : (d : Deck) (to : ℕ) (before now : MastState) (run : Run) → Is
     → now.faults ≡ before.faults → now.port ≡ Some to → HasSent d to before now
 all_cast d to before now run is sent calm port = record { sent = inr (run.history, is.whole, sent); later = omega (arith, calm); port = port }
 
--- One that wasn't sent the first buckets of a whole history.
+-- A run that wasn't cast sent the first buckets of a whole history.
 pub part_cast : (d : Deck) (to : ℕ) (before now : MastState) (f : RunFault) → IsCastAnswer d before now f → now.port ≡ Some to → HasSent d to before now
 part_cast d to before now (fault.Mast at) h port = record { sent = inl (at, h.1); later = rose_later before.faults now.faults h.0; port = port }
 part_cast d to before now fault.NoMemory h port = record { sent = inl h.1; later = omega (arith, h.0); port = port }
 
--- Why it wasn't.
+-- Why a run wasn't cast.
 pub fault_refused : (d : Deck) (to : ℕ) (before now : MastState) (f : RunFault) → run_tape_len d ≤ MOST_TAPE_BYTES → IsCastAnswer d before now f → now.port ≡ Some to
     → IsCastRefusal d to before now (cast_status f)
 unfolding IsCastRefusal

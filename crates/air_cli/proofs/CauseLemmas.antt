@@ -1,4 +1,4 @@
--- What is known of a named deck, and how a cause at one stage is one at the next.
+-- Facts about a named deck, and how a cause at one stage becomes one at the next.
 use Rattle.std.proofs.Common.{ℕ, ◌≤◌, List, length, Option, Some, None, subst}
 use Rattle.air_base.specs.declared.limits.TheConstants.{MOST_DECK_BYTES}
 use Rattle.item_catalog.specs.Grammar.{Spells}
@@ -23,20 +23,20 @@ pub where_so : (file : Option (List ℕ)) (P Q : List ℕ → Type 0) → ((byte
 where_so None P Q so p = tt
 where_so (Some xs) P Q so p = so xs p
 
--- The named file's bytes, where they are told, spell a deck, and this is so of the deck.
+-- If the named file is told, its bytes spell a deck that has this property.
 abbrev pub OfDeck : List ℕ → ShelfState → (Deck → Type 0) → Type 0
 OfDeck name before P = WhereTold (before.told.file name) (λ bytes. (length bytes ≤ MOST_DECK_BYTES) × ((d : Deck) × Spells bytes d × P d))
 
--- What is so of the deck that was read is so of the named deck.
+-- What holds of the deck that was read holds of the named deck.
 pub of_deck : (name : List ℕ) (before : ShelfState) (d : Deck) (P : Deck → Type 0) → SpellsDeck name before d → P d → OfDeck name before P
 of_deck name before d P spells p = where_so (before.told.file name) (λ bytes. (length bytes ≤ MOST_DECK_BYTES) × Spells bytes d)
     (λ bytes. (length bytes ≤ MOST_DECK_BYTES) × ((d : Deck) × Spells bytes d × P d)) (λ bytes h. (h.0, (d, h.1, p))) spells
 
--- Where the deck's file is told, what is so of the deck that there is is so of the one that the file spells.
+-- If the deck's file is told, what holds of some deck holds of the one that the file spells.
 pub of_had : (name : List ℕ) (before : ShelfState) (P : Deck → Type 0) → HasDeck name before P → OfDeck name before P
 of_had name before P (d, spells, made, p) = of_deck name before d P spells p
 
--- So it is of bytes.
+-- The same for bytes.
 pub of_bytes : (name : List ℕ) (before : ShelfState) (P : List ℕ → Type 0) → HasBytes name before P → WhereTold (before.told.file name) P
 of_bytes name before P (bytes, known, p) = where_read (before.told.file name) bytes P known p
 
@@ -48,13 +48,13 @@ unfolding DeckCause UnreadCause
 unread_deck name before now (status.Deck row kind) h = absurd h
 unread_deck name before now s h = h
 
--- Where there is no deck, none can be run.
+-- If there is no deck, none can be run.
 pub deck_runs : (name : List ℕ) (before now : ShelfState) (s : Status) → DeckCause name before now s → UnrunnableCause name before now s
 unfolding UnrunnableCause DeckCause UnreadCause
 deck_runs name before now (status.PlanTooLong slots) h = absurd h
 deck_runs name before now s h = h
 
--- Nor can a deck of which a program would be too long.
+-- A deck of which a program would be too long can't be run either.
 pub length_runs : (name : List ℕ) (before now : ShelfState) (d : Deck) (s : Status) → SpellsDeck name before d → IsDeck d → LengthCause d s → UnrunnableCause name before now s
 unfolding UnrunnableCause DeckCause UnreadCause LengthCause
 length_runs name before now d status.NoMemory spells made h = h

@@ -1,4 +1,4 @@
--- What commands on a told shelf give, and why they are refused: where each relation holds, and where it doesn't.
+-- What commands on a told shelf give, and why they are refused: positive and negative examples of each relation.
 use Rattle.std.proofs.Common.{◌≡◌, ◌<◌, ◌≤◌, ℕ, true, false, List, [], ◌∷◌, Option, Some, None, All, length, refl, sym, ap, subst, ◌∙◌, inl, inr, arith}
 use Rattle.std.specs.Prelude.{codes}
 use Rattle.std.proofs.lemmas.List.Elements.{All-from_recursion, All-nil}
@@ -46,7 +46,7 @@ has_deck = (small, spells_deck, small_is_deck, short)
 pub the_deck : (d : Deck) → SpellsDeck (codes "d") shelf d → d ≡ small
 the_deck d h = one_deck its_deck d small h.1 spells
 
--- So there is none that has no item.
+-- So the file spells no deck without an item.
 no_deck : HasDeck (codes "d") shelf (λ d. length d.items ≡ 0) → ⊥
 no_deck (d, is, made, none) = omega (arith, none, made.some)
 
@@ -77,14 +77,14 @@ not_plan = (
   λ h. let differs : true ≡ false = h.0 in cc,
 )
 
--- Where nothing is told there is a deck all the same whose first program that is too long has the slots that are told.
+-- If nothing is told, there still is a deck whose first program that is too long has this number of slots.
 program_too_long : (d : Deck) (slots : ℕ) (untold : ShelfState) → untold.told.file (codes "d") ≡ None → IsDeck d → IsFirstTooLong d slots
     → UnrunnableCause (codes "d") untold untold (status.PlanTooLong slots)
 unfolding UnrunnableCause
 program_too_long d slots untold none made long =
     (d, subst (λ (file : Option (List ℕ)). WhereTold file (λ bytes. (length bytes ≤ MOST_DECK_BYTES) × Spells bytes d)) (sym none) tt, made, long)
 
--- ---- a deck that can't be had
+-- ---- no deck
 
 -- A file that wasn't read to its end has no fault.
 not_read : (row kind : ℕ) → DeckCause (codes "d") shelf shelf (status.Deck row kind) → ⊥
@@ -94,7 +94,7 @@ not_read row kind h = let end : its_deck ≡ [] = h.read in cc
 not_faulty : (row kind : ℕ) → IsFaulty (codes "d") row kind shelf shelf → ⊥
 not_faulty row kind h = let end : its_deck ≡ [] = h.read in cc
 
--- The number of a file that is too large is that of its limit, and the file has more bytes.
+-- The status of a file that is too large has the limit, and the file has more bytes.
 abbrev of_five : ShelfState → ShelfState
 of_five now = record now { told = record now.told { file = λ name. Some (codes "abcde"); left = λ name. Some (codes "e") } }
 
@@ -111,7 +111,7 @@ not_too_large = (λ h. let limit : 9 ≡ 10 = h.0 in omega (arith, limit), λ h.
     not_failed (inl rose) = omega arith
     not_failed (inr last) = omega (arith, last.0)
 
--- None of its programs is too long, whatever number is told.
+-- None of its programs is too long, with any number of slots.
 not_unrunnable : (slots : ℕ) → UnrunnableCause (codes "d") shelf shelf (status.PlanTooLong slots) → ⊥
 unfolding UnrunnableCause
 not_unrunnable slots (d, is, made, long) = too_long small slots short (subst (λ d. IsFirstTooLong d slots) (the_deck d is) long)
@@ -168,7 +168,7 @@ not_script = (
   λ h. let differs : true ≡ false = h.0 in cc,
 )
 
--- Its tape isn't too long; one is from one byte above the most on, whose number is told.
+-- Its tape isn't too long; a tape is from one byte above the limit on, and the status has its number of bytes.
 not_script_too_long : (bytes : ℕ) → ScriptCause (codes "d") shelf shelf (status.TooLong bytes) → ⊥
 unfolding ScriptCause
 not_script_too_long bytes (d, is, made, long) =

@@ -1,4 +1,4 @@
--- What an answer doesn't allow: outputs, texts, counts, masts and ears that are another than they were, each for one reason.
+-- What an answer doesn't allow: outputs, texts, counts, masts and ears that are not as they were, each for one reason.
 use Rattle.std.proofs.Common.{◌≡◌, ◌≤◌, ℕ, true, false, List, [], Some, None, get_or, refl, sym, ap, ◌∙◌, inl, inr, arith}
 use Rattle.std.specs.Prelude.{codes, if◌then◌else◌, nat_eq, take, ◌⊎◌}
 use Rattle.std.specs.Cmp.Lexicographic.{pointwise}
@@ -18,7 +18,7 @@ use Rattle.air_cli.specs.Listen.{HasHeardPort, IsBrokenListening, listen_meaning
 use Rattle.air_cli.specs.Meanings.{Meaning, no_command}
 use Rattle.air_cli.specs.NamedDecks.{DeckCause}
 use Rattle.air_cli.specs.NamedFiles.{UnreadCause}
-use Rattle.air_cli.specs.Outputs.{OutputHolds, OutputHoldsPart}
+use Rattle.air_cli.specs.Outputs.{OutputHolds, OutputHoldsBeginning}
 use Rattle.air_cli.specs.Plan.{plan_meaning}
 use Rattle.air_cli.specs.Script.{script_meaning}
 use Rattle.air_cli.specs.Tune.{tune_given, tune_meaning}
@@ -60,7 +60,7 @@ abbrev print_failed : ShelfState → ShelfState
 print_failed now = record now { faults = record (one_count 0) { printing = 1 } }
 
 pub record Shelves : Type 0 where
-  -- the output that was begun is the named one; no other changed, nothing was printed, and no count rose
+  -- the output that was begun is the named one; no other changed, nothing was printed, and no count went up
   other_begun : HasBegun script shelf other_output → ⊥
   begun_and_printed : HasBegun script shelf (printed (codes "a")) → ⊥
   begun_and_failed : HasBegun script shelf (print_failed shelf) → ⊥
@@ -71,12 +71,12 @@ pub record Shelves : Type 0 where
   -- counts of readings and of writings count
   reading_rose : NoCountRose shelf.faults (read_failed shelf).faults → ⊥
   writing_rose : NoCountRose shelf.faults (write_failed shelf).faults → ⊥
-  -- where a count rose, nothing is said of the status
+  -- if a count went up, nothing is said of the status
   where_one_rose : Completes plan shelf (read_failed shelf) status.ReadFault
   -- an output that was told is told again
   not_held : OutputHolds (Some (codes "o")) (codes "ab") shelf untold_outputs → ⊥
   not_held_now : NowHolds (codes "o") (codes "ab") shelf untold_outputs → ⊥
-  not_held_in_part : OutputHoldsPart (codes "o") (codes "ab") shelf untold_outputs → ⊥
+  not_held_in_part : OutputHoldsBeginning (codes "o") (codes "ab") shelf untold_outputs → ⊥
 
 shelves : Shelves
 shelves = record {
@@ -98,11 +98,11 @@ shelves = record {
     none : (n : ℕ) → None ≡ Some (take n (codes "ab")) → ⊥
     none n e = cc
 
-    in_part : OutputHoldsPart (codes "o") (codes "ab") shelf untold_outputs → ⊥
+    in_part : OutputHoldsBeginning (codes "o") (codes "ab") shelf untold_outputs → ⊥
     in_part (inl same) = let e : None ≡ Some [] = same in cc
     in_part (inr (n, e)) = none n e
 
--- What each other status says.
+-- What each other status means.
 pub record Statuses : Type 0 where
   print : (now : ShelfState) → PrintFailed plan shelf now → QuietAnswers plan shelf now status.WriteFault
   output : (now : ShelfState) → OutputFailed script shelf now → QuietAnswers script shelf now status.WriteFault
@@ -200,7 +200,7 @@ pub record OnAir : Type 0 where
   other_ear : IsBrokenListening small 8 0 (ear 0) (ear 1) → ⊥
   -- what was told of the mast is told again
   untold_cast : IsBrokenCast small 7 0 (mast 0) (untold_mast 1) → ⊥
-  -- neither succeeds where a call failed
+  -- neither succeeds if a call failed
   cast_failed : (cast_meaning (codes "d") 7 (mast 0) (mast 1)).Suits shelf → ⊥
   listening_failed : (listen_meaning (codes "d") 7 (ear 0) (ear 1)).Suits shelf → ⊥
 

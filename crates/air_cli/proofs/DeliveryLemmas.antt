@@ -4,7 +4,7 @@ use Rattle.std.specs.Prelude.{Result, Ok, Err, OnErr, OnOk}
 use Rattle.std.specs.Io.KnownBytes.{Appends}
 use Rattle.air_devices.specs.Counts.{KeepsCounts, Rose}
 use Rattle.air_devices.specs.Shelves.{ShelfState}
-use Rattle.air_devices.specs.WhatIsTold.{AppendsPart, Becomes}
+use Rattle.air_devices.specs.WhatIsTold.{AppendsBeginning, Becomes}
 use Rattle.air_report.specs.declared.status.Status.{Status}
 use Rattle.air_report.specs.declared.status.Status.TheVariants as status
 use Rattle.air_cli.specs.ReportsAndTapes.{ReportAndTape, given_status}
@@ -41,13 +41,13 @@ delivers_all output given tape text before mid now s is_tape is_text is_status h
 -- The tape was written, then the print failed.
 pub delivers_part : (output : Option (List ℕ)) (given : ReportAndTape) (tape text : List ℕ) (before mid now : ShelfState) → tape ≡ given.tape → text ≡ given.text
     → OutputHolds output tape before mid → before.faults.printing ≤ mid.faults.printing → mid.told.printed ≡ before.told.printed
-    → ((name : List ℕ) → now.told.output name ≡ mid.told.output name) → AppendsPart mid.told.printed now.told.printed text → Rose mid.faults.printing now.faults.printing → Delivers output given before now status.WriteFault
+    → ((name : List ℕ) → now.told.output name ≡ mid.told.output name) → AppendsBeginning mid.told.printed now.told.printed text → Rose mid.faults.printing now.faults.printing → Delivers output given before now status.WriteFault
 unfolding Delivers
 delivers_part output given tape text before mid now is_tape is_text holds counts same kept printed rose = inr (
   rose_since before.faults.printing mid.faults.printing now.faults.printing counts rose,
   record {
     written = subst (λ bytes. OutputHolds output bytes before now) is_tape (holds_still output tape before mid now kept holds);
-    printed = subst (λ o. AppendsPart o now.told.printed given.text) same (subst (AppendsPart mid.told.printed now.told.printed) is_text printed);
+    printed = subst (λ o. AppendsBeginning o now.told.printed given.text) same (subst (AppendsBeginning mid.told.printed now.told.printed) is_text printed);
   },
 )
 

@@ -20,7 +20,7 @@ use Rattle.air_cli.specs.Words.{AsksDrill, asked_drill, asked_of, asked_of_one}
 abbrev IsAmong : Status → Type 0
 IsAmong s = Contains (0 ∷ 1 ∷ 4 ∷ 5 ∷ []) (status_number s)
 
--- No status but these is a refusal's, and nothing that is given differs.
+-- A refusal has only these statuses, and nothing that is given differs.
 record RefusesFew (command : Meaning) : Type 0 where
   refuses : (before now : ShelfState) (s : Status) → command.Refuses before now s → IsAmong s
   same : (before : ShelfState) (given : ReportAndTape) → command.Gives before given → given.differs ≡ false

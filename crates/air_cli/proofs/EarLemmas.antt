@@ -1,4 +1,4 @@
--- Datagrams that are taken from the front of what is still to be heard, and what listeners have heard of them.
+-- Datagrams that are taken from the beginning of what is still to be heard, and what listeners have heard of them.
 use Rattle.std.proofs.Common.{◌≡◌, ℕ, zero, suc, ◌+◌, ◌≤◌, ◌<◌, Option, Some, None, All, List, [], ◌∷◌, ◌++◌, length, map, take, drop, refl, sym, ◌∙◌, ap, subst, arith}
 use Rattle.std.specs.Prelude.{⊤}
 use Rattle.std.proofs.lemmas.List.{length-append, length-take, map-append, take_all}
@@ -16,7 +16,7 @@ use Rattle.air_cli.specs.declared.commands.hearings.TheConstants.{MOST_HEARD_BYT
 
 -- ---- what was taken
 
--- Just so many datagrams were taken, and this is what was heard of them.
+-- Exactly n datagrams were taken, and this is what was heard of them.
 abbrev pub AreFirst : ℕ → Option (List (List ℕ)) → Option (List (List ℕ)) → List (List ℕ) → Type 0
 AreFirst count None now heard = ⊤
 AreFirst count (Some waiting) now heard = (count ≤ length waiting) × (now ≡ Some (drop count waiting)) × (heard ≡ map heard_bytes (take count waiting))
@@ -69,12 +69,12 @@ over n most (Some w) mid now heard l are used =
     let long = nothing_left w n u.0 in
     (are.2 ∙ ap (map heard_bytes) (take_all n w long ∙ sym (take_all most w (omega arith))), u.1 ∙ ap Some (sym (drop_past w most (omega arith))))
 
--- Just so many were taken.
+-- Exactly n were taken.
 just : (n : ℕ) (before now : Option (List (List ℕ))) (heard : List (List ℕ)) → AreFirst n before now heard → TakesJust n before now
 just n None now heard are = tt
 just n (Some w) now heard are = (are.0, are.1)
 
--- Just so many were taken: as many as may be, or all that there were.
+-- Some number of datagrams, at most `most`, leaves the same as `most` does.
 just_some : (most : ℕ) (w : List (List ℕ)) → (count : ℕ) × (count ≤ most) × (count ≤ length w) × (drop count w ≡ drop most w)
 just_some zero w = (0, omega arith, omega arith, refl)
 just_some (suc most) [] = (0, omega arith, omega arith, refl)
@@ -86,14 +86,14 @@ just_taken most (Some w) now h = let (count, few, within, same) = just_some most
 
 -- ---- what a call heard
 
--- The bytes in front of the buffer are what is heard of the datagram that was taken.
+-- The bytes at the beginning of the buffer are what is heard of the datagram that was taken.
 pub taken_so : (before now : Option (List (List ℕ))) (buf bytes : List ℕ) (len : ℕ) → length buf ≡ MOST_HEARD_BYTES → bytes ≡ take len buf → Hears before now buf (heard.Bucket len)
     → TakesFirst before now (λ d. bytes ≡ heard_bytes d)
 taken_so None now buf bytes len long is h = tt
 taken_so (Some []) now buf bytes len long is h = h.2
 taken_so (Some (d ∷ rest)) now buf bytes len long is h = (h.2.0, is ∙ h.2.1 ∙ ap (λ k. take k d) long)
 
--- It has a byte at least, and no more than are heard.
+-- It has at least a byte, and at most as many as are heard.
 abbrev Fits : List ℕ → Type 0
 Fits bytes = (1 ≤ length bytes) × (length bytes ≤ MOST_HEARD_BYTES)
 
@@ -111,7 +111,7 @@ over_only before now buf heard.Over not told = told
 
 -- ---- what listeners have heard
 
--- The listeners have heard so many datagrams.
+-- The listeners have heard n datagrams.
 pub record HaveHeardFirst (count : ℕ) (before now : Option (List (List ℕ))) (first last : List Listener) : Type 0 where
   pub heard : List (List ℕ)
   pub long : length heard ≡ count
@@ -119,7 +119,7 @@ pub record HaveHeardFirst (count : ℕ) (before now : Option (List (List ℕ))) 
   pub are : AreFirst count before now heard
   pub same : last ≡ map (hears (map bucket_in heard)) first
 
--- One member behind the others.
+-- One member after the others.
 one_behind : (o : Option Bucket) (members : List (Option Bucket)) (A : List Listener) → map (hears_one o) (map (hears members) A) ≡ map (hears (members ++ o ∷ [])) A
 unfolding hears
 one_behind o members [] = refl
@@ -130,7 +130,7 @@ module _ (before : Option (List (List ℕ))) (first : List Listener) where
   pub heard_none : HaveHeardFirst 0 before before first first
   heard_none = record { heard = []; long = refl; each = All-nil Fits; are = none_first before; same = sym (hears_none first) }
 
-  -- One more datagram, of so many bytes.
+  -- One more datagram, of n bytes.
   pub heard_more : (n : ℕ) (mid now : Option (List (List ℕ))) (last next : List Listener) (bytes : List ℕ) → HaveHeardFirst n before mid first last → (1 ≤ length bytes) × (length bytes ≤ MOST_HEARD_BYTES)
       → TakesFirst mid now (λ d. bytes ≡ heard_bytes d) → next ≡ map (hears_one (bucket_in bytes)) last → HaveHeardFirst (n + 1) before now first next
   heard_more n mid now last next bytes h size takes is = record {
@@ -146,6 +146,6 @@ module _ (before : Option (List (List ℕ))) (first : List Listener) where
       let o = over n most before mid now h.heard l h.are used in
       record { heard = h.heard; is = record { few = (let so = h.long in omega arith); each = h.each; are = o.0; taken = o.1 }; same = h.same }
 
-  -- What was taken, where a call then fails.
+  -- What was taken, if a call then fails.
   pub heard_just : (n : ℕ) (mid now : Option (List (List ℕ))) (last : List Listener) → HaveHeardFirst n before mid first last → now ≡ mid → TakesJust n before now
   heard_just n mid now last h same = subst (TakesJust n before) (sym same) (just n before mid h.heard h.are)

@@ -1,4 +1,4 @@
--- From how a command ended to what its status says, and to what the command leaves.
+-- From how a command ended to what its status means, and to what the command leaves.
 use Rattle.std.proofs.Common.{ℕ, List, Option, Result, Ok, Err, sym, ◌∙◌, subst, inl, inr}
 use Rattle.std.specs.Prelude.{IfErr, IfOk, MatchResult}
 use Rattle.air_devices.specs.Shelves.{ShelfState}
@@ -12,7 +12,7 @@ use Rattle.air_cli.proofs.AnswerLemmas.{answers_made}
 use Rattle.air_cli.proofs.ReadLemmas.{falls_twice}
 use Rattle.air_cli.proofs.RefusalLemmas.{IsSound, answers_refused, leaves_refused, untouched}
 
--- How it ended, by what was made, where its output is this.
+-- How it ended, by what was made, if its output is this one.
 abbrev pub EndsAt : Option (List ℕ) → Result ReportAndTape Status → ShelfState → ShelfState → Status → Type 0
 EndsAt output made mid now s = MatchResult made (λ given. EndsGiven output given mid now s) (λ why. EndsUnmade why mid now s)
 

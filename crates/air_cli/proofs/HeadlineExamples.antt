@@ -1,5 +1,5 @@
--- The headline on the told shelf. Its premises are met together: each statement holds of what a call left there that succeeded. It holds of
--- no call that left something else, and a wrong verdict isn't right.
+-- The headline on the told shelf. Its premises can be met together: each statement holds of a call that succeeded there. It doesn't hold of a call
+-- that left something else, and a wrong verdict isn't right.
 use Rattle.std.proofs.Common.{◌≡◌, ◌*◌, ℕ, true, false, List, [], ◌∷◌, Option, Some, None, All, length, refl, ap, sym, ◌∙◌, subst, arith}
 use Rattle.std.specs.Prelude.{codes, if◌then◌else◌, nat_eq}
 use Rattle.std.specs.Cmp.Lexicographic.{pointwise}
@@ -96,7 +96,7 @@ not_right = (
   λ h. ((h.aborted refl).0 tt).1 refl,
 )
 
--- Reads that lie 255 cycles apart can't be judged by ages: an attempt on them is aged where the deck has version 2.
+-- Reads that are 255 cycles apart can't be judged by ages: an attempt on them is aged if the deck has version 2.
 abbrev aged_at : ℕ → VerdictLine
 aged_at cycle = line (Aged 1 cycle) (read 0 1 10 ∷ [])
 
@@ -111,7 +111,7 @@ right_aged = record {
   aborted = λ f. (λ aborts. absurd aborts, λ apart. let e : true ≡ false = apart.0 in cc);
 }
 
--- Not where they lie closer, and not where it has version 1.
+-- They can if they are closer, or if the deck has version 1.
 not_aged : (IsRightVerdict (aired_in 2 small) ten (aged_at 255) → ⊥) × (IsRightVerdict small ten (aged_at 256) → ⊥)
 unfolding span spans_too_far
 not_aged = (λ h. let e : false ≡ true = (h.aged refl).0 tt in cc, λ h. let e : false ≡ true = (h.aged refl).0 tt in cc)
@@ -131,7 +131,7 @@ not_accepted h = let e : false ≡ true = h.consistent in false≢true e
 not_judged : (heard : ℕ → List (List ℕ)) → IsJudgedReport chain (script_history chain) heard (record { history = []; verdicts = mixed ∷ []; counts = []; glances = []; looks = [] }) → ⊥
 not_judged heard h = not_accepted (h.right 0 mixed (omega arith))
 
--- A report over what was heard tells no history.
+-- A report over what was heard has no history.
 not_heard : IsHeardReport small [] (record { history = ten; verdicts = []; counts = []; glances = []; looks = [] }) → ⊥
 not_heard h = let none : ten ≡ [] = ap (λ (r : Report). r.history) h.decided in cc
 
@@ -154,7 +154,7 @@ pub its_run : OneHistoryLaw → Headline (Some (AsksRun (codes "d") (codes "o"))
 its_run one_history = run_stands (codes "d") (codes "o") shelf (holding (run_tape small ten) its_bytes) (run_given small ten_run) (run_gives one_history)
     (record { written = refl; printed = sym its_report })
 
--- No run wrote no tape.
+-- The statement doesn't hold if the output is empty.
 no_tape : (text : List ℕ) → RunStands (codes "d") (codes "o") shelf (holding [] text) → ⊥
 no_tape text h =
     let H = h.report.history in
@@ -167,7 +167,7 @@ no_tape text h =
     ∙ ap (tape_size small.settings.version (length small.items) (slots_at (air_of small))) cycles ∙ sym (run_sum small) in
     omega (arith, ap length none, long, run_bytes)
 
--- None printed nothing: what it prints tells one history, and that has ten starts.
+-- It doesn't hold if nothing was printed: the text determines one history, and that has ten starts.
 no_text : (tape : List ℕ) → RunStands (codes "d") (codes "o") shelf (holding tape []) → ⊥
 unfolding report_text rows_text starts
 no_text tape h =
@@ -201,7 +201,7 @@ its_tuning = tune_stands (codes "d") (codes "t") shelf (holding [] tuned_in) (tu
 over_nothing : IsHeardReport small [] (session_report [] (sessions_over (by_entries (scheme_in small)) small (λ r. [])))
 over_nothing = tuned_report small [] (is_true_tape [])
 
--- Not over a tape that is cut.
+-- It doesn't hold over a cut tape.
 abbrev cut : ShelfState
 cut = record shelf { told = record shelf.told { file = λ name. if pointwise nat_eq name (codes "t") then Some (0 ∷ 0 ∷ 0 ∷ []) else files name } }
 
@@ -217,7 +217,7 @@ cast_text = cast_output ten [] []
 its_cast : OneHistoryLaw → Headline (Some (AsksCast (codes "d") 7)) fresh_mast (aimed all_of_ten) (fresh_ear []) (fresh_ear []) shelf (holding [] cast_text) status.Ok
 its_cast one_history = cast_stands (codes "d") 7 fresh_mast (aimed all_of_ten) shelf (holding [] cast_text) (cast_given ten_run) (cast_gives one_history) (record { written = tt; printed = refl })
 
--- Not to another port, nor without the end.
+-- It doesn't hold of another port, nor without the end.
 not_cast : (now : ShelfState) → (CastStands (codes "d") 8 fresh_mast (aimed all_of_ten) shelf now → ⊥) × (CastStands (codes "d") 7 fresh_mast (aimed (record all_of_ten { ended = None })) shelf now → ⊥)
 not_cast now = (
   λ h. let port : ◌≡◌ {A = Option ℕ} (Some 7) (Some 8) = h.aimed in let same : ◌≡◌ {A = ℕ} 7 8 = cc in omega (arith, same),
@@ -268,6 +268,6 @@ not_differing h =
 
 -- ---- other commands
 
--- Of a plan the headline says nothing.
+-- The headline says nothing of a plan.
 its_plan : QuietHeadline (Some (AsksPlan (codes "d"))) shelf shelf status.Ok
 its_plan = tt

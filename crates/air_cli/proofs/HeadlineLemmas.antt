@@ -1,4 +1,4 @@
--- The headline follows from the answers: case by case of what the words ask for.
+-- The headline follows from the answers, by cases of what the words ask for.
 use Rattle.std.proofs.Common.{◌≡◌, ℕ, ◌++◌, List, [], Option, Some, None, IfSome, map, take, refl, ap, sym, ◌∙◌, subst}
 use Rattle.std.specs.Io.KnownBytes.{Appends}
 use Rattle.air_devices.specs.Ears.{EarState}

@@ -1,4 +1,4 @@
--- What all heard of the records that were let go, as a tape is read by pieces. The loop of `hear_pieces` cites these.
+-- What all heard of the dropped records, while a tape is read by pieces. The loop of `hear_pieces` cites these.
 use Rattle.std.proofs.Common.{◌≡◌, ◌≤◌, ◌<◌, ◌+◌, ◌-◌, ◌^◌, ◌++◌, ◌∙◌, ℕ, List, [], ◌∷◌, Option, None, length, map, drop, All, refl, sym, ap, subst, arith, get_or}
 use Rattle.std.proofs.lemmas.List.{append-nil, length-map, map-append}
 use Rattle.std.proofs.lemmas.List.Elements.{All-map}
@@ -15,7 +15,7 @@ use Rattle.air_cli.specs.Private.Pieces.{AreWholeRecords, HasCome, HaveHeardFile
 use Rattle.air_cli.proofs.WholeRecordLemmas.{many_bytes}
 use Rattle.air_cli.proofs.ReadSoFar.{IsRead, all_told, came, let_go, nothing_came, read_none}
 
--- Some records were read and let go, before the piece, and heard by all.
+-- Some records before the piece were read, heard by all and dropped.
 pub record SoFar (most : ℕ) (file left : Option (List ℕ)) (piece : List ℕ) (still : ℕ) (before now : List Listener) : Type 0 where
   pub records : List (List ℕ)
   pub read : IsRead most file left records piece still
@@ -27,12 +27,12 @@ heard_twice first second [] = refl
 heard_twice first second (l ∷ A) =
     ap (λ x. x ∷ map (hears second) (map (hears first) A)) (sym (pieces first second l)) ∙ ap (λ xs. hears (first ++ second) l ∷ xs) (heard_twice first second A)
 
--- At first nothing was.
+-- At first nothing was heard.
 pub begun : (most : ℕ) (file left : Option (List ℕ)) (piece : List ℕ) (before : List Listener) → left ≡ file → piece ≡ [] → SoFar most file left piece most before before
 begun most file left piece before whole none =
     subst (λ bytes. SoFar most file left bytes most before before) (sym none) (record { records = []; read = read_none most file left whole; heard = sym (hears_none before) })
 
--- Bytes came, and the whole records at the front of the piece, which was lent as a slice, were heard and let go.
+-- Bytes came, and the whole records at the beginning of the piece, which was lent as a slice, were heard and dropped.
 pub heard_more : {most : ℕ} {file left later : Option (List ℕ)} {piece after slice : List ℕ} {still n used : ℕ} {before now : List Listener} (next : List ℕ) (all : List Listener)
     → SoFar most file left piece still before now → HasCome n piece after left later → n ≤ still → slice ≡ after → AreWholeRecords slice used
     → all ≡ map (hears (map bucket_in (tape_read slice).records)) now → next ≡ drop used after → SoFar most file later next (still - n) before all

@@ -1,4 +1,4 @@
--- What told inputs decide: where they suit a command nothing refuses it, and what it gives is a function of them.
+-- What told inputs decide: if they suit a command, nothing refuses it, and what it gives is a function of them.
 use Rattle.std.proofs.Common.{◌≡◌, ℕ, ◌+◌, ◌≤◌, List, length, drop, Option, Some, refl, subst, arith}
 use Rattle.std.specs.Prelude.{◌<◌}
 use Rattle.air_base.specs.declared.limits.TheConstants.{MOST_DECK_BYTES}
@@ -20,7 +20,7 @@ use Rattle.air_cli.specs.Answers.{NoCountRose}
 use Rattle.air_cli.proofs.CauseLemmas.{OfDeck, of_had}
 use Rattle.air_cli.proofs.RefusalLemmas.{IsSound}
 
--- What suits a command is not refused but for memory.
+-- What suits a command is refused only out of memory.
 pub record GoesByInputs (command : Meaning) : Type 0 where
   pub fits : (before now : ShelfState) (s : Status) → TellsInputs command before → command.Suits before → NoCountRose before.faults now.faults
       → command.Refuses before now s → s ≡ status.NoMemory
@@ -36,16 +36,16 @@ pub record CommandFacts (command : Meaning) : Type 0 where
 
 -- ---- a told file
 
--- What is so where a file is told is so of the bytes that are told.
+-- What holds of some bytes of a told file holds of the bytes that are told.
 pub of_told : (file : Option (List ℕ)) (bytes : List ℕ) (P : List ℕ → Type 0) → file ≡ Some bytes → WhereTold file P → P bytes
 of_told file bytes P told h = subst (λ f. WhereTold f P) told h
 
--- What is so of the named deck is so of the deck that the told bytes spell.
+-- What holds of the named deck holds of the deck that the told bytes spell.
 pub deck_told : (name : List ℕ) (before : ShelfState) (bytes : List ℕ) (P : Deck → Type 0) → before.told.file name ≡ Some bytes → OfDeck name before P
     → (length bytes ≤ MOST_DECK_BYTES) × ((d : Deck) × Spells bytes d × P d)
 deck_told name before bytes P told h = of_told (before.told.file name) bytes (λ bytes. (length bytes ≤ MOST_DECK_BYTES) × ((d : Deck) × Spells bytes d × P d)) told h
 
--- What is so of the named deck twice is so of one deck.
+-- If two things hold of the named deck, they hold of one deck.
 pub both : (name : List ℕ) (before : ShelfState) (bytes : List ℕ) (P Q : Deck → Type 0) → before.told.file name ≡ Some bytes → OfDeck name before P → OfDeck name before Q
     → (d : Deck) × P d × Q d
 both name before bytes P Q told p q =
@@ -53,7 +53,7 @@ both name before bytes P Q told p q =
     let b = deck_told name before bytes Q told q in
     (a.1.0, a.1.2, subst Q (one_deck bytes b.1.0 a.1.0 b.1.1 a.1.1) b.1.2)
 
--- The programs of a deck aren't all short enough where the first that is too long has so many slots.
+-- The programs of a deck aren't all short enough if the first that is too long has this number of slots.
 pub too_long : (d : Deck) (slots : ℕ) → HasShortPrograms d → IsFirstTooLong d slots → ⊥
 too_long d slots short first = let few = short first.edition first.within in omega (arith, few, first.long.counted, first.long.above)
 

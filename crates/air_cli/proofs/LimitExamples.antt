@@ -1,4 +1,4 @@
--- What answers say at limits: the last size that is allowed, and the first that isn't. Of the bytes all that is known is their number.
+-- What answers mean at limits: the greatest size that is allowed, and the least that isn't. Only the number of the bytes is known.
 use Rattle.std.proofs.Common.{◌≡◌, ◌≤◌, ℕ, List, [], Some, None, length, refl, ap, arith}
 use Rattle.std.specs.Prelude.{codes}
 use Rattle.air_devices.specs.Shelves.{ShelfState}

@@ -1,4 +1,4 @@
--- What readers of the told deck hear of an ear: where each relation holds, and where it doesn't.
+-- What readers of the told deck hear of an ear: positive and negative examples of each relation.
 use Rattle.std.proofs.Common.{◌≡◌, ◌<◌, ◌≤◌, ℕ, false, List, [], ◌∷◌, Option, Some, None, length, refl, ap, inl, arith}
 use Rattle.std.specs.Prelude.{codes}
 use Rattle.std.proofs.lemmas.List.Elements.{All-from_recursion}
@@ -34,21 +34,21 @@ abbrev first_byte : List (List ℕ) → ℕ
 first_byte ((byte ∷ bytes) ∷ more) = byte
 first_byte other = 0
 
--- Not the second, nor both where one is the most.
+-- They heard neither the second, nor both if they hear at most one.
 not_first : (AreFirstHeard 1 (Some (a ∷ b ∷ [])) (b ∷ []) → ⊥) × (AreFirstHeard 1 (Some (a ∷ b ∷ [])) (a ∷ b ∷ []) → ⊥)
 not_first = (λ h. let e : 98 ≡ 97 = ap first_byte h in omega (arith, e), λ h. let n : 2 ≡ 1 = ap length h in omega (arith, n))
 
 taken : TakesUpTo 1 (Some (a ∷ b ∷ [])) (Some (b ∷ [])) × TakesUpTo 3 (Some (a ∷ b ∷ [])) (Some []) × TakesJust 2 (Some (a ∷ b ∷ [])) (Some [])
 taken = (refl, refl, (omega arith, refl))
 
--- Three aren't taken just where there are two, and what is taken is gone.
+-- Exactly three aren't taken if there are two, and what is taken is gone.
 not_taken : (TakesJust 3 (Some (a ∷ b ∷ [])) (Some []) → ⊥) × (TakesUpTo 1 (Some (a ∷ b ∷ [])) (Some (a ∷ b ∷ [])) → ⊥)
 not_taken = (λ h. let few : 3 ≤ 2 = h.0 in omega arith, λ h. let same : a ∷ b ∷ [] ≡ b ∷ [] = cc in let n : 2 ≡ 1 = ap length same in omega (arith, n))
 
 is_heard : IsHeardOnEar 1 (Some (a ∷ b ∷ [])) (Some (b ∷ [])) (a ∷ [])
 is_heard = record { few = omega arith; each = All-from_recursion (λ bytes. (1 ≤ length bytes) × (length bytes ≤ MOST_HEARD_BYTES)) (a ∷ []) ((omega arith, omega arith), tt); are = refl; taken = refl }
 
--- Where nothing is told no more is heard all the same, and no empty datagram.
+-- If nothing is told, still no more is heard, and no empty datagram.
 not_heard : (IsHeardOnEar 1 None None (a ∷ b ∷ []) → ⊥) × (IsHeardOnEar 1 None None ([] ∷ []) → ⊥)
 not_heard = (λ h. let few : 2 ≤ 1 = h.few in omega arith, λ h. let some : 1 ≤ 0 = (h.each 0 [] (omega arith)).0 in omega arith)
 
@@ -76,7 +76,7 @@ is_listening = record {
   port = refl;
 }
 
--- Not on another port, nor where something is left.
+-- It doesn't hold on another port, nor if something is left.
 not_listening : (IsListening small 8 (fresh_ear (a ∷ b ∷ [])) (tuned []) (tune_given small (a ∷ b ∷ [])) (a ∷ b ∷ []) → ⊥)
     × (IsListening small 7 (fresh_ear (a ∷ b ∷ [])) (tuned (b ∷ [])) (tune_given small (a ∷ b ∷ [])) (a ∷ b ∷ []) → ⊥)
 not_listening = (
@@ -92,11 +92,11 @@ not_listen_gives : ListenGives (codes "d") 7 (fresh_ear []) (tuned []) shelf (re
 unfolding ListenGives
 not_listen_gives h = let tape : ◌≡◌ {A = List ℕ} (1 ∷ []) [] = ap (λ (g : ReportAndTape). g.tape) h.1.4.1.given_is in cc
 
--- The ear failed behind the first datagram.
+-- The ear failed after the first datagram.
 is_broken : IsBrokenListening small 7 1 (fresh_ear (a ∷ b ∷ [])) (record (tuned (b ∷ [])) { faults = 1 })
 is_broken = record { rose = inl (omega arith); few = omega arith; taken = (omega arith, refl); port = refl }
 
--- It doesn't fail behind the last that is to be heard.
+-- It doesn't fail after the last that is to be heard.
 not_broken : (old new : EarState) → IsBrokenListening small 7 1000000 old new → ⊥
 not_broken old new h = let few : 1000000 < 1000000 = h.few in omega arith
 

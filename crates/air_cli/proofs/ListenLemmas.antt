@@ -39,7 +39,7 @@ unrunnable_listen deck on ear before now (status.AirFault at) h = absurd h
 unrunnable_listen deck on ear before now status.NoMemory h = tt
 unrunnable_listen deck on ear before now s h = (h, refl)
 
--- Nor do they report where the ear fails.
+-- They don't report either if the ear fails.
 pub refused_listen : (deck : List ℕ) (on : ℕ) (old new : EarState) (before now : ShelfState) (d : Deck) (s : Status) → SpellsDeck deck before d → IsDeck d → HasShortPrograms d
     → IsListenRefusal d on old new s → ListenCause deck on old new before now s
 unfolding ListenCause UnrunnableCause DeckCause UnreadCause IsListenRefusal
@@ -88,7 +88,7 @@ pub all_heard : (d : Deck) (on : ℕ) (before now : EarState) (heard : List (Lis
     → now.port ≡ Some on → HasHeardPort d on before now
 all_heard d on before now heard is calm port = record { taken = (d.settings.hears, omega arith, is.taken); later = omega (arith, calm); port = port }
 
--- Else they heard fewer, or as many.
+-- Readers who don't report heard at most as many.
 pub part_heard : (d : Deck) (on : ℕ) (before now : EarState) (f : HearFault) → IsHearAnswer d.settings.hears before now f → now.port ≡ Some on → HasHeardPort d on before now
 part_heard d on before now (fault.Ear at) h port =
     let few = h.1 in

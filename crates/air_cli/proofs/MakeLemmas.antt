@@ -1,4 +1,4 @@
--- What is said alike of every command that was made, or wasn't.
+-- What holds for every command, whether it made something or not.
 use Rattle.std.proofs.Common.{◌≡◌, ℕ, List, sym, subst, inl, inr}
 use Rattle.std.specs.Prelude.{◌≢◌, ◌⊎◌}
 use Rattle.std.specs.Io.KnownBytes.{IsAtEnd}
@@ -9,7 +9,7 @@ use Rattle.air_report.specs.declared.status.Status.TheVariants as status
 use Rattle.air_cli.specs.Meanings.{Meaning}
 use Rattle.air_cli.specs.Private.BeforeDelivery.{IsUnmade}
 
--- There is a cause, and every count is as it was but where a read failed.
+-- There is a cause, and every count is as it was unless a read failed.
 pub is_unmade : (command : Meaning) (before now : ShelfState) (s : Status) → command.Refuses before now s → (s ≢ status.ReadFault → KeepsCounts before.faults now.faults)
     → IsUnmade command before now s
 is_unmade command before now s cause kept = record { cause = cause; kept = kept }

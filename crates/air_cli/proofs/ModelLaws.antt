@@ -1,4 +1,4 @@
--- The laws of the model on which the truth of printed sessions rests, as the functions of their names state them.
+-- The laws of the model that the truth of printed sessions depends on, as the functions of their names state them.
 use Rattle.std.specs.Prelude.{◌≡◌, ℕ, ◌<◌, List, length, map, All, Contains, Option, Some}
 use Rattle.air_history.specs.declared.histories.Event.{Event}
 use Rattle.air_history.specs.Histories.{EventFits}

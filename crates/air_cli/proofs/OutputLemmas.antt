@@ -6,13 +6,13 @@ use Rattle.std.proofs.Math.Seq.{take-append-add}
 use Rattle.std.proofs.lemmas.Bool.{cases_lt}
 use Rattle.std.proofs.lemmas.List.{take-append-le, take_all}
 use Rattle.air_devices.specs.Contents.{Contents}
-use Rattle.air_devices.specs.Counts.{Faults, HasCauseIn, KeepsCounts, NoCountFalls, Rose, writing_of}
+use Rattle.air_devices.specs.Counts.{Faults, KeepsCounts, NoCountFalls, Rose, TellsFailureIn, writing_of}
 use Rattle.air_devices.specs.Shelves.{ShelfState}
-use Rattle.air_devices.specs.WhatIsTold.{AppendsPart, Becomes}
+use Rattle.air_devices.specs.WhatIsTold.{AppendsBeginning, Becomes}
 use Rattle.air_devices.specs.Unchanged.{KeepsButOutput, KeepsButPrinted}
 use Rattle.air_cli.specs.Deliveries.{KeepsButDelivered}
-use Rattle.air_cli.specs.OutputPieces.{IsCutOff, IsWritten}
-use Rattle.air_cli.specs.Outputs.{OutputHolds, OutputHoldsPart}
+use Rattle.air_cli.specs.Private.OutputPieces.{IsCutOff, IsWritten}
+use Rattle.air_cli.specs.Outputs.{OutputHolds, OutputHoldsBeginning}
 use Rattle.air_cli.proofs.CountLemmas.{kept_twice}
 
 -- ---- what an output holds
@@ -39,12 +39,12 @@ first_of so_far piece rest n = elim (cases_lt n (length piece)) as (λ _. (m : �
 
 -- Bytes that were written, and then the first of a piece.
 grown_part : (name so_far piece rest : List ℕ) (before mid now : ShelfState) → Becomes (before.told.output name) (mid.told.output name) so_far
-    → AppendsPart (mid.told.output name) (now.told.output name) piece → OutputHoldsPart name ((so_far ++ piece) ++ rest) before now
+    → AppendsBeginning (mid.told.output name) (now.told.output name) piece → OutputHoldsBeginning name ((so_far ++ piece) ++ rest) before now
 grown_part name so_far piece rest before mid now held more =
     let front = first_of so_far piece rest more.0 in
     inr (front.0, subst (Becomes (before.told.output name) (now.told.output name)) front.1 (grown (before.told.output name) (mid.told.output name) (now.told.output name) so_far (take more.0 piece) held more.1))
 
--- ---- what is told beside it
+-- ---- what else is told
 
 pub keeps_delivered : (name : List ℕ) (before now : Contents) → KeepsButOutput name before now → KeepsButDelivered (Some name) before now
 keeps_delivered name before now h = record { files = h.files; left = h.left; outputs = λ n other. h.other_outputs n (λ same. other (ap Some (sym same))) }
@@ -80,7 +80,7 @@ rest_printed output bytes before mid now was rest = record {
 
 -- ---- calls
 
--- Where no output is named nothing is written.
+-- If no output is named, nothing is written.
 pub none_begun : (output : Option (List ℕ)) (s : ShelfState) → output ≡ None → IsWritten output [] s s
 none_begun output s is = record {
   holds = subst (λ o. OutputHolds o [] s s) (sym is) tt;
@@ -94,7 +94,7 @@ none_added output first s so_far piece is was = record { holds = subst (λ o. Ou
 
 -- An output that was made empty, or wasn't.
 pub output_begun : {T E : Type 0} (made : Result T E) (output : Option (List ℕ)) (name : List ℕ) (before now : ShelfState) → output ≡ Some name
-    → OnOk made (Becomes (before.told.output name) (now.told.output name) []) → KeepsButOutput name before.told now.told → HasCauseIn (writing_of name) before.faults now.faults made
+    → OnOk made (Becomes (before.told.output name) (now.told.output name) []) → KeepsButOutput name before.told now.told → TellsFailureIn (writing_of name) before.faults now.faults made
     → OnOk made (IsWritten output [] before now)
 output_begun (Ok x) output name before now is emptied rest cause = subst (λ o. IsWritten o [] before now) (sym is) (record {
   holds = emptied;
@@ -105,7 +105,7 @@ output_begun (Ok x) output name before now is emptied rest cause = subst (λ o. 
 output_begun (Err e) output name before now is emptied rest cause = tt
 
 pub output_unbegun : {T E : Type 0} (made : Result T E) (output : Option (List ℕ)) (name tape : List ℕ) (before now : ShelfState) → output ≡ Some name
-    → OnErr made (now.told.output name ≡ before.told.output name) → KeepsButOutput name before.told now.told → HasCauseIn (writing_of name) before.faults now.faults made
+    → OnErr made (now.told.output name ≡ before.told.output name) → KeepsButOutput name before.told now.told → TellsFailureIn (writing_of name) before.faults now.faults made
     → OnErr made (IsCutOff output tape before now)
 output_unbegun (Ok x) output name tape before now is same rest cause = tt
 output_unbegun (Err e) output name tape before now is same rest cause = subst (λ o. IsCutOff o tape before now) (sym is) (record {
@@ -117,7 +117,7 @@ output_unbegun (Err e) output name tape before now is same rest cause = subst (�
 
 -- A piece that was added, or wasn't.
 pub piece_added : {T E : Type 0} (added : Result T E) (output : Option (List ℕ)) (name so_far piece : List ℕ) (first mid now : ShelfState) → output ≡ Some name → IsWritten output so_far first mid
-    → OnOk added (Appends (mid.told.output name) (now.told.output name) piece) → KeepsButOutput name mid.told now.told → HasCauseIn (writing_of name) mid.faults now.faults added
+    → OnOk added (Appends (mid.told.output name) (now.told.output name) piece) → KeepsButOutput name mid.told now.told → TellsFailureIn (writing_of name) mid.faults now.faults added
     → OnOk added (IsWritten output (so_far ++ piece) first now)
 piece_added (Ok x) output name so_far piece first mid now is was more rest cause =
     let old : IsWritten (Some name) so_far first mid = subst (λ o. IsWritten o so_far first mid) is was in
@@ -130,7 +130,7 @@ piece_added (Ok x) output name so_far piece first mid now is was more rest cause
 piece_added (Err e) output name so_far piece first mid now is was more rest cause = tt
 
 pub piece_cut : {T E : Type 0} (added : Result T E) (output : Option (List ℕ)) (name so_far piece rest : List ℕ) (first mid now : ShelfState) → output ≡ Some name → IsWritten output so_far first mid
-    → OnErr added (AppendsPart (mid.told.output name) (now.told.output name) piece) → KeepsButOutput name mid.told now.told → HasCauseIn (writing_of name) mid.faults now.faults added
+    → OnErr added (AppendsBeginning (mid.told.output name) (now.told.output name) piece) → KeepsButOutput name mid.told now.told → TellsFailureIn (writing_of name) mid.faults now.faults added
     → OnErr added (IsCutOff output ((so_far ++ piece) ++ rest) first now)
 piece_cut (Ok x) output name so_far piece rest first mid now is was more keeps cause = tt
 piece_cut (Err e) output name so_far piece rest first mid now is was more keeps cause =

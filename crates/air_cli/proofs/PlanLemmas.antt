@@ -1,5 +1,5 @@
--- The disks of a deck's programs beside those of the deck, the slots of a minor cycle beside those of the program, and the rows of a plan one
--- after another.
+-- The disks of a deck's programs compared with those of the deck, the slots of a minor cycle compared with those of the program, and the rows of a
+-- plan one after another.
 use Rattle.std.proofs.Common.{◌≡◌, ℕ, zero, suc, ◌+◌, ◌*◌, ◌<◌, ◌≤◌, Option, Some, None, List, [], ◌∷◌, ◌++◌, length, map, take, drop, get_or, refl, sym, ap, ◌∙◌, append_assoc, zero-add, codes, subst, arith}
 use Rattle.std.specs.Prelude.{IfSome}
 use Rattle.std.specs.List.{enumerate_from, flat_map, range_with_len, slice_get}
@@ -73,7 +73,7 @@ held_item d e disks i all same below = rw same (omega arith)
 
 -- ---- rows one after another
 
--- What is so of the element at a place, if there is one.
+-- What holds of the element at a place, if there is one.
 some_at : {X : Type 0} (xs : List X) (i : ℕ) (e : X) (Q : X → Type 0) → i < length xs → IfSome (slice_get xs i) Q → Q (get_or xs i e)
 some_at xs i e Q below h = subst (λ o. IfSome o Q) (slice_get-get_or xs i e below) h
 
@@ -112,7 +112,7 @@ pub minors_more : (disks : List Disk) (m k : ℕ) (before now after : List ℕ) 
 minors_more disks m k before now after below told grew =
     rows_more (minor_row disks) (range_with_len 0 m) k k before now after (omega (arith, length-range_with_len 0 m)) (sym (get_or-range_with_len 0 m k k below ∙ zero-add k)) told grew
 
--- The rows of all elements, once the last is written.
+-- The rows of all elements, after the last is written.
 pub all_rows : {L : Type 0} (row : L → List (List ℕ)) (lines : List L) (n : ℕ) (before now : List ℕ) → length lines ≤ n → now ≡ before ++ rows_text (map row (take n lines))
     → now ≡ before ++ rows_text (map row lines)
 all_rows row lines n before now done told = told ∙ ap (λ l. before ++ rows_text (map row l)) (take_all n lines done)
@@ -178,7 +178,7 @@ replans_more d k before now after below told grew =
     ∙ ap (λ t. t ++ rows_text (rows line)) told ∙ append_assoc before (rows_text (flat_map rows (take k xs))) (rows_text (rows line))
     ∙ ap (λ t. before ++ t) (sym (rows_both (flat_map rows (take k xs)) (rows line))) ∙ ap (λ l. before ++ rows_text l) (sym wrote)
 
--- The rows of all replans, once those of the last are written.
+-- The rows of all replans, after those of the last are written.
 pub all_replans : (d : Deck) (n : ℕ) (before now : List ℕ) → length d.replans ≤ n
     → now ≡ before ++ rows_text (flat_map (replan_rows (rates_in d)) (take n (enumerate_from 1 d.replans)))
     → now ≡ before ++ rows_text (flat_map (replan_rows (rates_in d)) (enumerate_from 1 d.replans))

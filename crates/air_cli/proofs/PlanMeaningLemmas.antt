@@ -33,7 +33,7 @@ plan_fits : (deck : List ℕ) (before now : ShelfState) (s : Status) → TellsIn
     → NoCountRose before.faults now.faults → UnrunnableCause deck before now s → s ≡ status.NoMemory
 plan_fits deck before now s told suits calm h = let known = told deck refl in runs_fits deck before now s known.0 known.1 (of_had deck before HasShortPrograms suits) calm h
 
--- Where the deck's file is told, all of it is so of the deck that the file spells.
+-- If the deck's file is told, all of it holds of the deck that the file spells.
 plan_told : (deck : List ℕ) (before : ShelfState) (given : ReportAndTape) → PlanGives deck before given → OfDeck deck before (λ d. HasShortPrograms d × (given ≡ plan_given d))
 unfolding PlanGives
 plan_told deck before given (same, (d, spells, made, short, is)) = of_deck deck before d (λ d. HasShortPrograms d × (given ≡ plan_given d)) spells (short, is)

@@ -1,4 +1,4 @@
--- What reading one named file, or two, leaves, and what it tells of an earlier moment.
+-- What reading one named file, or two, leaves, and what it means for an earlier moment.
 use Rattle.std.proofs.Common.{◌≡◌, ◌≢◌, ℕ, ◌+◌, Bool, true, false, List, length, drop, Some, refl, sym, subst, inl, inr, arith}
 use Rattle.std.specs.Prelude.{◌<◌, ◌⊎◌, nat_eq}
 use Rattle.std.specs.Cmp.Lexicographic.{bytes_decides, pointwise}
@@ -30,14 +30,14 @@ falls_twice before mid now a b = record {
 
 -- ---- a deck, then a tape
 
--- The deck stays read to its end, also where the tape is the same file.
+-- The deck stays read to its end, even if the tape is the same file.
 pub end_still : (deck tape : List ℕ) (mid now : ShelfState) → KeepsButLeft tape mid.told now.told → IsAtEnd (mid.told.left deck) → IsAtEnd (now.told.left tape) → IsAtEnd (now.told.left deck)
 end_still deck tape mid now second first end = elim (same_name deck tape) [
   | inl same ↦ subst (λ name. IsAtEnd (now.told.left name)) (sym same) end
   | inr other ↦ subst IsAtEnd (sym (second.other_left deck other)) first
 ]
 
--- Why a tape wasn't read, told of the moment before the deck was read.
+-- Why a tape wasn't read, stated for the moment before the deck was read.
 pub unread_since : (tape : List ℕ) (most : ℕ) (before mid now : ShelfState) (s : Status) → mid.told.file tape ≡ before.told.file tape → KeepsCounts before.faults mid.faults
     → UnreadCause tape most mid now s → UnreadCause tape most before now s
 unfolding UnreadCause

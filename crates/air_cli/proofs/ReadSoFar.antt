@@ -1,5 +1,5 @@
--- A tape that is read by pieces: the records that were let go, the piece that follows them, and what the next bytes, the end of
--- the file or its limit make of them. What was heard of the records stands in `HeardSoFar`.
+-- A tape that is read by pieces: the dropped records, the piece that follows them, and what the next bytes, the end of the file or its limit make of
+-- them. `HeardSoFar` has what was heard of the records.
 use Rattle.std.proofs.Common.{◌≡◌, ◌≤◌, ◌<◌, ◌+◌, ◌-◌, ◌^◌, ◌++◌, ◌∙◌, ℕ, List, [], Option, Some, None, true, length, drop, refl, sym, ap, subst, inl, inr, arith, append_assoc, length-append}
 use Rattle.std.specs.Io.KnownBytes.{Consumes, IsAtEnd, Keeps, prepend_known}
 use Rattle.std.proofs.lemmas.List.{append-nil, drop_at, nil_from_length, take-append-drop}
@@ -13,8 +13,8 @@ use Rattle.air_cli.specs.HeardTapes.{UnheardCause}
 use Rattle.air_cli.specs.Private.Pieces.{AreWholeRecords, HasCome, IsCutBefore, IsRest}
 use Rattle.air_cli.proofs.WholeRecordLemmas.{tape_joined}
 
--- The tape of these records and then the piece were read off the front of the file, which may have so many bytes; so many of these are
--- still to come.
+-- The tape of these records and then the piece were read from the beginning of the file. The file may have at most `most` bytes, so at most `still`
+-- more may come.
 pub record IsRead (most : ℕ) (file left : Option (List ℕ)) (records : List (List ℕ)) (piece : List ℕ) (still : ℕ) : Type 0 where
   pub short : AreShort records
   pub read : Keeps file (prepend_known (tape_of records ++ piece) left)
@@ -67,7 +67,7 @@ came {most} {file} {left} {records} {piece} {still} n after later far come few =
       upto = omega (arith, ap length come.behind, length-append piece come.bytes, come.count, far.upto);
     }
 
--- The whole records at its front were let go.
+-- The whole records at its beginning were dropped.
 pub let_go : {most : ℕ} {file left : Option (List ℕ)} {records : List (List ℕ)} {piece : List ℕ} {still n : ℕ} (next : List ℕ)
     → IsRead most file left records piece still → AreWholeRecords piece n → next ≡ drop n piece → IsRead most file left (records ++ (tape_read piece).records) next still
 let_go {most} {file} {left} {records} {piece} {still} {n} next far front rest =
@@ -86,7 +86,7 @@ let_go {most} {file} {left} {records} {piece} {still} {n} next far front rest =
 pub none_came : {n : ℕ} {left later : Option (List ℕ)} {piece after : List ℕ} → n ≡ 0 → HasCome n piece after left later → HasCome 0 piece after left later
 none_came {n} {left} {later} {piece} {after} none come = subst (λ n. HasCome n piece after left later) none come
 
--- Nothing came any more.
+-- No more bytes came.
 pub nothing_came : {left later : Option (List ℕ)} {piece after : List ℕ} → HasCome 0 piece after left later → after ≡ piece
 nothing_came {left} {later} {piece} {after} come = come.behind ∙ ap (λ l. piece ++ l) (nil_from_length come.bytes come.count) ∙ append-nil piece
 
@@ -99,7 +99,7 @@ all_told {most} {file} {left} {later} {records} {piece} {after} {still} far come
     let same : front ++ come.bytes ≡ front = ap (λ l. front ++ l) (nil_from_length come.bytes come.count) ∙ append-nil front in
     subst (ToldIs file) same (told_end file later (front ++ come.bytes) last (come.end refl))
 
--- Where bytes of the piece are left, it is cut where they begin.
+-- If bytes of the piece are left, the tape is cut where they begin.
 pub cut_told : {most : ℕ} {file left later : Option (List ℕ)} {records : List (List ℕ)} {piece after : List ℕ} {still : ℕ} (at : ℕ)
     → IsRead most file left records piece still → IsRest piece → HasCome 0 piece after left later → 0 < length after → at ≡ most - still - length after
     → (bytes : List ℕ) × ToldIs file bytes × ((length bytes ≤ most) × ((tape_read bytes).cut ≡ Some at))
@@ -122,7 +122,7 @@ cut_cause {most} {left} {later} {records} {piece} {after} {slice} {still} name b
 
 -- ---- its limit
 
--- More came than may: the file is too large.
+-- More bytes came than are allowed: the file is too large.
 pub too_large : {most : ℕ} {file left later : Option (List ℕ)} {records : List (List ℕ)} {piece after : List ℕ} {still : ℕ} (n : ℕ)
     → IsRead most file left records piece still → HasCome n piece after left later → still < n → n ≤ still + 1
     → WhereTold file (λ bytes. (most < length bytes) × (later ≡ Some (drop (most + 1) bytes)))

@@ -1,4 +1,4 @@
--- From a cause and a printed line to what a refusal's status says; `IsSound` is what a command's refusals must have for it.
+-- From a cause and a printed line to what a refusal's status means; `IsSound` is what a command's refusals must have for it.
 use Rattle.std.proofs.Common.{◌≡◌, ◌≢◌, ℕ, ◌≤◌, ◌+◌, List, length, drop, Option, Some, refl, sym, ◌∙◌, subst, inl, inr, arith}
 use Rattle.std.specs.Prelude.{◌<◌, ◌⊎◌}
 use Rattle.std.specs.Io.KnownBytes.{Appends, IsAtEnd}
@@ -6,7 +6,7 @@ use Rattle.std.proofs.lemmas.Bool.{cases_lt}
 use Rattle.air_base.specs.declared.limits.TheConstants.{MOST_DECK_BYTES}
 use Rattle.air_devices.specs.Counts.{KeepsCounts, NoCountFalls, Rose}
 use Rattle.air_devices.specs.Unchanged.{KeepsButPrinted}
-use Rattle.air_devices.specs.WhatIsTold.{AppendsPart, WhereTold}
+use Rattle.air_devices.specs.WhatIsTold.{AppendsBeginning, WhereTold}
 use Rattle.air_devices.specs.Shelves.{ShelfState}
 use Rattle.air_report.specs.declared.status.Status.{Status}
 use Rattle.air_report.specs.declared.status.Status.TheVariants as status
@@ -56,8 +56,8 @@ unrunnable_still name before mid now s rest counts h = deck_still name before mi
 
 -- ---- what makes a command's refusals sound
 
--- A cause that was found stays one while a line is printed, neither success nor a difference nor a failed write is a refusal,
--- and where reading failed, it was that of a named input.
+-- A cause that was found stays one while a line is printed. Success, a difference and a failed write are no refusals. If reading failed, it was
+-- reading a named input.
 pub record IsSound (command : Meaning) : Type 0 where
   pub still : (before mid now : ShelfState) (s : Status) → KeepsButPrinted mid.told now.told → NoCountFalls mid.faults now.faults
       → command.Refuses before mid s → command.Refuses before now s
@@ -75,7 +75,7 @@ no_command_sound = record {
   input = λ before now h. let is : status.ReadFault ≡ status.Words = h in absurd (cc is);
 }
 
--- ---- what a refusal says
+-- ---- what a refusal means
 
 -- A refusal with its cause.
 refusal_says : (command : Meaning) → IsSound command → (before now : ShelfState) (s : Status) → s ≢ status.NoMemory → command.Refuses before now s → IsRefusal s before now
@@ -94,7 +94,7 @@ pub untouched : (command : Meaning) (before now : ShelfState) → now.told.print
 unfolding QuietAnswers
 untouched command before now printed outputs counts = record { untouched = inl (record { printed = printed; outputs = outputs }); counts = counts }
 
--- The counts where there was no memory for a refusal's line: as they were, or reading an input had failed before.
+-- The counts if there was no memory for a refusal's line: as they were, or reading an input had failed before.
 counts_wanting : (command : Meaning) → IsSound command → (before mid now : ShelfState) (s : Status) → (s ≢ status.ReadFault → KeepsCounts before.faults mid.faults) → command.Refuses before mid s
     → KeepsCounts mid.faults now.faults → KeepsCounts before.faults now.faults ⊎ InputFailed command before now
 counts_wanting command sound before mid now status.ReadFault kept cause calm =
@@ -111,7 +111,7 @@ steady_since before mid now kept (inr rose) = inr (subst (λ n. Rose n now.fault
 prints_since : (text : List ℕ) (before mid now : ShelfState) → mid.told.printed ≡ before.told.printed → before.faults.printing ≤ mid.faults.printing →
     PrintsUnlessFailed text mid now → PrintsUnlessFailed text before now
 prints_since text before mid now same le p = record {
-  part = subst (λ o. AppendsPart o now.told.printed text) same p.part;
+  part = subst (λ o. AppendsBeginning o now.told.printed text) same p.part;
   whole = λ calm. subst (λ o. Appends o now.told.printed text) same (p.whole (λ rose. calm (rose_since before.faults.printing mid.faults.printing now.faults.printing le rose)));
 }
 
@@ -128,7 +128,7 @@ answers_refused command sound before mid now s answer some reads cause kept refu
       (counts_wanting command sound before mid now s kept cause none.2))
 ]
 
--- Where nothing is read all is as it was.
+-- If nothing is read, everything is as it was.
 pub reads_nothing : (command : Meaning) (before : ShelfState) → ReadsInputs command before before
 reads_nothing command before = record {
   files = λ name. refl;

@@ -12,7 +12,7 @@ use Rattle.air_model.specs.Outputs.{sessions_over}
 use Rattle.air_model.specs.ReceiverLaws.{IsTrueSession, session_of}
 use Rattle.air_model.specs.Reports.{Report, counts_lines, line_by, session_report, verdict_lines}
 use Rattle.air_model.specs.SessionLaws.{IsExactLine, IsSoundLine}
-use Rattle.air_model.specs.Sessions.{Line, State, reader_of}
+use Rattle.air_model.specs.Sessions.{SessionLine, State, reader_of}
 use Rattle.air_model.specs.declared.reports.VerdictLine.{VerdictLine}
 use Rattle.air_cli.specs.Headline.{IsHeardReport, IsJudgedReport, IsRightVerdict}
 use Rattle.air_cli.specs.Truths.{AreTrue, IsTrueTape}
@@ -20,7 +20,7 @@ use Rattle.air_cli.proofs.TruthLemmas.{map_numbers}
 
 module _ (d : Deck) (H : List Event) where
   -- A sound line that is exact under F-Matrix is a right verdict of its reader.
-  right_line : (r : ℕ) (l : Line) → IsSoundLine (values_in d) d.settings.policy H l → (d.settings.policy ≡ FMatrix → IsExactLine d.settings.version H (reader_of d r) l)
+  right_line : (r : ℕ) (l : SessionLine) → IsSoundLine (values_in d) d.settings.policy H l → (d.settings.policy ≡ FMatrix → IsExactLine d.settings.version H (reader_of d r) l)
       → IsRightVerdict d H (line_by r l)
   right_line r l sound exact = record {
     consistent = sound.reads.consistent;
@@ -39,7 +39,7 @@ module _ (d : Deck) (H : List Event) where
   right_session r heard is = subst (λ (s : State). All (λ l. Right (line_by r l)) s.lines) is.same
       (λ k e below. right_line r (get_or its_lines k e) (is.sound k e below) (λ f. is.exact f k e below))
     where
-      its_lines : List Line
+      its_lines : List SessionLine
       its_lines = (session_of (by_entries (scheme_in d)) d r heard).lines
 
   module _ (heard : ℕ → List (List ℕ)) where
@@ -54,7 +54,7 @@ module _ (d : Deck) (H : List Event) where
         (All-map Right (line_by a) (its_session a).lines (right_session a (map bucket_in (heard a)) (are a (omega arith) (omega arith))))
         (lines_right (a + 1) n (λ r low below. are r (omega arith) (omega arith)))
 
-    -- A report with the lines that the history decides has right verdicts, where the sessions are true.
+    -- A report with the lines that the history decides has right verdicts, if the sessions are true.
     pub judged_report : (report : Report) → report.verdicts ≡ verdict_lines (sessions_over (by_history (scheme_in d) (values_in d) H) d heard)
         → report.counts ≡ counts_lines (sessions_over (by_history (scheme_in d) (values_in d) H) d heard) → AreTrue d H heard → IsJudgedReport d H heard report
     judged_report report verdicts counts are = record {

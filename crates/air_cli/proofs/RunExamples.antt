@@ -1,4 +1,4 @@
--- A run of the told deck, its report and its tape, and a cast of it: where each relation holds, and where it doesn't.
+-- A run of the told deck, its report and its tape, and a cast of it: positive and negative examples of each relation.
 use Rattle.std.proofs.Common.{◌≡◌, ℕ, zero, suc, true, false, List, [], ◌∷◌, Option, Some, None, length, map, refl, ap, subst, inl, inr, arith}
 use Rattle.std.specs.Prelude.{◌<◌, codes, slice_get}
 use Rattle.std.proofs.lemmas.List.Elements.{All-nil}
@@ -33,7 +33,7 @@ use Rattle.air_model.specs.Rows.{rows_text}
 use Rattle.air_model.specs.Runs.{IsRun, Run}
 use Rattle.air_model.specs.Sessions.{abort, accept_if_whole, copy_of, count_copied, count_dozed, count_foreign, count_late, count_opened, count_refused, decide, drop_copy, end, end_aged, end_query, hear, hear_all, hear_read, hold, is_unusable, judge_read, line_of, next_attempt, next_query, offer, open_bucket, query_of, session, settle, turn, turn_with, wanted, with_line}
 use Rattle.air_report.specs.declared.status.Status.TheVariants as status
-use Rattle.deck_runs.specs.Casts.{IsCastPart, all_sent}
+use Rattle.deck_runs.specs.Casts.{IsCastBeginning, all_sent}
 use Rattle.deck_runs.specs.DeckBytes.{deck_bytes}
 use Rattle.deck_runs.specs.RunTapes.{run_tape_len}
 use Rattle.deck_runs.specs.RunTruths.{IsTrueRun}
@@ -98,7 +98,7 @@ pub its_report : run_output small ten [] [] ≡ its_bytes
 unfolding number_text escaped fields_text is_blank last_place greatest cycle_at front starts writer writer_before writes reads is_start descends descends_in column_entry value_on_base write_of value_after table origin stale descends_from runs_alone last_alone consistent least is_late clash_by_history body_at bucket_at count_of entries_at entry_told raw_entries entries_of entry_count is_placed is_shaped is_entry item_of kind_of reading spelling entry_bytes value_of words_by due_at due_number heard_list heard_by heard_places places_due times_heard keep without_item with_copy order order_with cut program least_common_multiple num_minors num_chunks chunk_len chunk minor_cycle disk_number chunks_of pix_number body_of bucket_of capped_entries capped_body buckets_of body_fits fits by_history session query_of wanted line_of with_line count_copied count_opened count_dozed count_late count_refused count_foreign next_query next_attempt accept_if_whole hold abort is_unusable drop_copy copy_of turn_with turn settle decide offer open_bucket end_aged judge_read hear_read hear hear_all end_query end rows_text report_text true_sessions
 its_report = refl
 
--- What has another tape, or something that differs, isn't given.
+-- A run with another tape, or with something that differs, isn't given.
 not_given : (run : Run) → IsGivenRun small (record (run_given small run) { differs = true }) run → ⊥
 not_given run h = let differs : true ≡ false = ap (λ (g : ReportAndTape). g.differs) h.given_is in cc
 
@@ -106,7 +106,7 @@ not_run : RunGives (codes "d") shelf (record (run_given small ten_run) { differs
 unfolding RunGives
 not_run h = let differs : true ≡ false = h.0 in cc
 
--- Its tape isn't too long, whatever number is told.
+-- Its tape isn't too long, with any number of bytes.
 not_too_long : (bytes : ℕ) → RunCause (codes "d") shelf shelf (status.TooLong bytes) → ⊥
 unfolding RunCause
 not_too_long bytes (d, is, made, long) =
@@ -126,7 +126,7 @@ aimed sent = record { told = Some sent; faults = 0; port = Some 7 }
 abbrev pub all_of_ten : SentBuckets
 all_of_ten = all_sent (deck_bytes small ten)
 
-no_part : IsCastPart small 0 (Some nothing_sent) (Some nothing_sent)
+no_part : IsCastBeginning small 0 (Some nothing_sent) (Some nothing_sent)
 no_part = record { history = ten; whole = is_whole; within = omega arith; sent = refl }
 
 is_cast : OneHistoryLaw → IsCast small 7 fresh_mast (aimed all_of_ten) (cast_given ten_run) ten_run
@@ -140,7 +140,7 @@ is_cast one_history = record {
   port = refl;
 }
 
--- Not on another port, nor without the end, nor where a call failed.
+-- It doesn't hold on another port, nor without the end, nor if a call failed.
 not_cast : (IsCast small 8 fresh_mast (aimed all_of_ten) (cast_given ten_run) ten_run → ⊥) × (IsCast small 7 fresh_mast (aimed (record all_of_ten { ended = None })) (cast_given ten_run) ten_run → ⊥)
     × (IsCast small 7 fresh_mast (record (aimed all_of_ten) { faults = 1 }) (cast_given ten_run) ten_run → ⊥)
 not_cast = (
@@ -164,7 +164,7 @@ not_cast_gives h = let tape : ◌≡◌ {A = List ℕ} (1 ∷ []) [] = ap (λ (g
 is_broken : IsBrokenCast small 7 0 fresh_mast (record (aimed nothing_sent) { faults = 1 })
 is_broken = record { rose = inl (omega arith); sent = no_part; port = refl }
 
--- It didn't where its count stands.
+-- It didn't fail if its count is as it was.
 not_broken : IsBrokenCast small 7 0 fresh_mast (aimed nothing_sent) → ⊥
 not_broken h = rises h.rose
   where

@@ -1,4 +1,4 @@
--- The report of a script: that of its history and of what its readers' sessions tell. `script_report` cites these.
+-- The report of a script is that of its history and of its readers' sessions. `script_report` cites these.
 use Rattle.std.proofs.Common.{◌≡◌, ◌<◌, ◌≤◌, ◌^◌, List, [], length, ◌∙◌, ap, arith}
 use Rattle.air_history.specs.declared.histories.Event.{Event}
 use Rattle.air_history.specs.Histories.{starts}
@@ -14,7 +14,7 @@ use Rattle.air_sender.proofs.RunLoops.{script_length}
 pub script_starts_few : (deck : Deck) → length deck.script ≤ 200000 → starts (script_history deck) < 2 ^ 32
 script_starts_few deck few = let most = starts_within (script_history deck) in let long = script_length deck in omega arith
 
--- The report of lines that sessions tell is that of the sessions.
+-- The report of the lines of sessions is that of the sessions.
 pub report_same : (events H : List Event) (verdicts : List VerdictLine) (counts : List CountsLine) (told : List State) → events ≡ H
     → verdicts ≡ verdict_lines told → counts ≡ counts_lines told
     → report_text (record { history = events; verdicts = verdicts; counts = counts; glances = []; looks = [] }) ≡ report_text (session_report H told)

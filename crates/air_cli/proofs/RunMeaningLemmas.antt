@@ -28,7 +28,7 @@ unfolding RunCause UnrunnableCause DeckCause UnreadCause
 unrunnable_run name before now (status.TooLong bytes) h = absurd h
 unrunnable_run name before now s h = h
 
--- Nor has a deck whose tape would be too long.
+-- A deck whose tape would be too long has no run either.
 pub long_run_cause : (name : List ℕ) (before now : ShelfState) (d : Deck) (s : Status) → SpellsDeck name before d → IsDeck d → HasShortPrograms d → IsRunRefusal d s → RunCause name before now s
 unfolding RunCause UnrunnableCause DeckCause UnreadCause IsRunRefusal
 long_run_cause name before now d (status.TooLong bytes) spells made short h = (d, spells, made, (short, h.counted, h.above))
@@ -73,7 +73,7 @@ run_fits deck tape before now s told suits calm h =
     let known = told deck refl in
     runs_fits deck before now s known.0 known.1 (can_run deck before suits) calm h
 
--- Where the deck's file is told, all of it is so of the deck that the file spells.
+-- If the deck's file is told, all of it holds of the deck that the file spells.
 pub told_run : (deck : List ℕ) (before : ShelfState) (given : ReportAndTape) → RunGives deck before given
     → (given.differs ≡ false) × OfDeck deck before (λ d. HasShortPrograms d × (run_tape_len d ≤ MOST_TAPE_BYTES) × ((run : Run) × IsGivenRun d given run))
 unfolding RunGives

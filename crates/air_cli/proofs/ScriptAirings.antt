@@ -1,19 +1,19 @@
--- From what airing a script wrote to what its status says.
+-- From what airing a script wrote to what its status means.
 use Rattle.std.proofs.Common.{◌≡◌, ℕ, List, length, take, Option, Some, None, refl, sym, ap, ◌∙◌, subst, inl, inr, arith}
 use Rattle.std.specs.Prelude.{◌⊎◌}
 use Rattle.std.specs.Io.KnownBytes.{Appends}
 use Rattle.std.proofs.Math.Seq.{take-append_seam}
 use Rattle.air_devices.specs.Counts.{KeepsCounts, NoCountFalls, Rose}
 use Rattle.air_devices.specs.Shelves.{ShelfState}
-use Rattle.air_devices.specs.WhatIsTold.{AppendsPart, Becomes}
+use Rattle.air_devices.specs.WhatIsTold.{AppendsBeginning, Becomes}
 use Rattle.air_devices.specs.Unchanged.{KeepsButPrinted}
 use Rattle.air_model.specs.Decks.{Deck}
 use Rattle.air_model.specs.Outputs.{script_output, script_tape}
 use Rattle.air_report.specs.declared.status.Status.{Status}
 use Rattle.air_report.specs.declared.status.Status.TheVariants as status
 use Rattle.air_cli.specs.Deliveries.{Delivers, KeepsButDelivered}
-use Rattle.air_cli.specs.OutputPieces.{IsWritten}
-use Rattle.air_cli.specs.Outputs.{OutputHoldsPart}
+use Rattle.air_cli.specs.Private.OutputPieces.{IsWritten}
+use Rattle.air_cli.specs.Outputs.{OutputHoldsBeginning}
 use Rattle.air_cli.proofs.CountLemmas.{kept_twice}
 use Rattle.air_cli.proofs.DeliveryLemmas.{delivers_all, delivers_none, delivers_part}
 use Rattle.air_cli.proofs.OutputLemmas.{no_fall}
@@ -28,10 +28,10 @@ use Rattle.air_cli.proofs.AnswerLemmas.{answers_made}
 use Rattle.air_cli.proofs.ReadLemmas.{falls_twice}
 use Rattle.air_cli.proofs.ScriptLemmas.{made_for, reads_for}
 
--- ---- memory ran out
+-- ---- out of memory
 
 -- An output to which a beginning of the tape was written.
-begun_part : (name tape : List ℕ) (before mid now : ShelfState) → mid.told.output name ≡ before.told.output name → HasBeginning (λ bytes. IsWritten (Some name) bytes mid now) tape → OutputHoldsPart name tape before now
+begun_part : (name tape : List ℕ) (before mid now : ShelfState) → mid.told.output name ≡ before.told.output name → HasBeginning (λ bytes. IsWritten (Some name) bytes mid now) tape → OutputHoldsBeginning name tape before now
 begun_part name tape before mid now same part =
     let front : part.so_far ≡ take (length part.so_far) tape = sym (take-append_seam part.so_far part.left) ∙ ap (take (length part.so_far)) (sym part.joined) in
     inr (length part.so_far, subst (λ o. Becomes o (now.told.output name) (take (length part.so_far) tape)) same (subst (Becomes (mid.told.output name) (now.told.output name)) front part.taken.holds))
@@ -67,7 +67,7 @@ answers_aired deck output d before mid now s made reads (inr (wanting, part)) ke
     } in
     subst (QuietAnswers (script_meaning deck output) before now) (sym wanting) h
 
--- Whatever the status.
+-- Regardless of the status.
 pub leaves_aired : (deck : List ℕ) (output : Option (List ℕ)) (before mid now : ShelfState) → ReadsInputs (script_meaning deck None) before mid → KeepsButDelivered output mid.told now.told
     → NoCountFalls mid.faults now.faults → Leaves (script_meaning deck output) before now
 leaves_aired deck output before mid now reads keeps counts = record {
@@ -85,9 +85,9 @@ pub printed_all : (output : Option (List ℕ)) (d : Deck) (text : List ℕ) (bef
 printed_all output d text before mid now same was printed rest calm =
     inl (delivers_all output (script_given d) (script_tape d) text before mid now status.Ok refl same refl was.holds was.calm was.printed rest.outputs printed calm)
 
--- Or a part of it.
+-- All of the tape was written, and then a part of the text was printed.
 pub printed_part : (output : Option (List ℕ)) (d : Deck) (text : List ℕ) (before mid now : ShelfState) → text ≡ script_output d → IsWritten output (script_tape d) before mid
-    → AppendsPart mid.told.printed now.told.printed text → KeepsButPrinted mid.told now.told → Rose mid.faults.printing now.faults.printing → AirsScript output d before now status.WriteFault
+    → AppendsBeginning mid.told.printed now.told.printed text → KeepsButPrinted mid.told now.told → Rose mid.faults.printing now.faults.printing → AirsScript output d before now status.WriteFault
 printed_part output d text before mid now same was printed rest rose =
     inl (delivers_part output (script_given d) (script_tape d) text before mid now refl same was.holds (omega (arith, was.calm.printing)) was.printed rest.outputs printed rose)
 

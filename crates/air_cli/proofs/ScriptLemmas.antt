@@ -26,7 +26,7 @@ use Rattle.air_cli.specs.Answers.{NoCountRose}
 use Rattle.air_cli.specs.Private.GivenTexts.{script_given}
 use Rattle.air_cli.proofs.InputLemmas.{CommandFacts, both, deck_told, runs_fits}
 
--- A deck that can't be done has no script done.
+-- The script of a deck that can't be run isn't run.
 pub unrunnable_script : (name : List ℕ) (before now : ShelfState) (s : Status) → UnrunnableCause name before now s → ScriptCause name before now s
 unfolding ScriptCause UnrunnableCause DeckCause UnreadCause
 unrunnable_script name before now (status.TooLong bytes) h = absurd h

@@ -62,7 +62,7 @@ not_different (same, more) = let differs : true ≡ false = same in cc
 
 -- ---- why it is refused
 
--- The told deck isn't refused, whatever number is told.
+-- The told deck isn't refused, with any number.
 not_much : (product : ℕ) → SplitCause (codes "d") shelf shelf (status.TooMuch product) → ⊥
 unfolding SplitCause UnsplitCause
 not_much product (d, is, made, (counted, above)) = let same : product ≡ search_size small = subst (λ d. product ≡ search_size d) (the_deck d is) counted in omega arith
@@ -73,7 +73,7 @@ not_long slots (d, is, made, (few, all)) =
     let long : AreAllTooLong small slots = subst (λ d. AreAllTooLong d slots) (the_deck d is) all in
     let low = long.least (2 ∷ []) short.split in let above = long.above in omega (arith, two_slots)
 
--- A deck is unsplit where memory ran out, and with no status of a command that was done.
+-- A deck is unsplit out of memory, and with no status of a command that was done.
 unsplit : UnsplitCause small status.NoMemory × (UnsplitCause small status.Ok → ⊥) × (UnsplitCause small (status.TooMuch 4) → ⊥)
 unfolding UnsplitCause
 unsplit = (tt, λ h. h, λ h. let above = h.1 in omega arith)

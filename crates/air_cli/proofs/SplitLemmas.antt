@@ -51,14 +51,14 @@ split_is d sizes best own c g before first second none same owned costs gives on
 
 -- ---- why it is refused
 
--- A deck that isn't had has no split.
+-- There is no split if there is no deck.
 pub deck_split : (name : List ℕ) (before now : ShelfState) (s : Status) → DeckCause name before now s → SplitCause name before now s
 unfolding SplitCause DeckCause UnreadCause
 deck_split name before now (status.TooMuch product) h = absurd h
 deck_split name before now (status.PlanTooLong slots) h = absurd h
 deck_split name before now s h = h
 
--- Nor has a deck of which no best one is given.
+-- There is none either if no best split of the deck is given.
 pub unsplit_split : (name : List ℕ) (before now : ShelfState) (d : Deck) (s : Status) → SpellsDeck name before d → IsDeck d → UnsplitCause d s → SplitCause name before now s
 unfolding SplitCause DeckCause UnreadCause UnsplitCause
 unsplit_split name before now d status.NoMemory spells made h = h
@@ -93,7 +93,7 @@ can_or_much : (d : Deck) (product : ℕ) → CanBeSplit d → UnsplitCause d (st
 unfolding UnsplitCause
 can_or_much d product can (counted, above) = let few = can.few in omega arith
 
--- Nor are all its splits too long.
+-- Not all splits of a deck that can be split are too long.
 can_or_long : (d : Deck) (slots : ℕ) → CanBeSplit d → UnsplitCause d (status.PlanTooLong slots) → ⊥
 unfolding UnsplitCause
 can_or_long d slots can (few, all) = let s = can.short in let fits = s.1.short in let low = all.least s.0 s.1.split in let above = all.above in omega arith
@@ -117,7 +117,7 @@ split_fits deck before now s told suits calm h = let known = told deck refl in d
 abbrev GivesBest : ReportAndTape → Deck → Type 0
 GivesBest given d = (sizes : List ℕ) × IsBest d sizes × (given ≡ split_given d sizes)
 
--- Where the deck's file is told, it is that of the deck that the file spells.
+-- If the deck's file is told, it is that of the deck that the file spells.
 split_told : (deck : List ℕ) (before : ShelfState) (given : ReportAndTape) → SplitGives deck before given → OfDeck deck before (GivesBest given)
 unfolding SplitGives
 split_told deck before given (same, (d, spells, made, few, gave)) = of_deck deck before d (GivesBest given) spells gave

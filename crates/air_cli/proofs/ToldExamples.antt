@@ -104,14 +104,14 @@ shelf = record { told = record { file = files; left = files; output = λ name. S
 pub spells_deck : SpellsDeck (codes "d") shelf small
 spells_deck = (omega arith, spells)
 
--- Another deck isn't spelled by it.
+-- It doesn't spell another deck.
 no_other_deck : SpellsDeck (codes "d") shelf (record small { items = [] }) → ⊥
 no_other_deck h = let items : 0 ≡ 2 = ap (λ (d : Deck). length d.items) (one_deck its_deck (record small { items = [] }) small h.1 spells) in omega (arith, items)
 
 has_deck : HasDeck (codes "d") shelf HasShortPrograms
 has_deck = (small, spells_deck, small_is_deck, short)
 
--- None of which nothing is so.
+-- There is no deck with an impossible property.
 not_has_deck : HasDeck (codes "d") shelf (λ d. ⊥) → ⊥
 not_has_deck h = h.3
 

@@ -29,7 +29,7 @@ completes command by before now s h told suits calm = inr (by.fits before now s 
 pub quiet_complete : (asked : Option Request) (before now : ShelfState) (s : Status) → QuietAnswers (quiet_meaning asked) before now s → Completes (quiet_meaning asked) before now s
 quiet_complete asked = completes (quiet_meaning asked) (quiet_facts asked).inputs
 
--- So with a mast and an ear.
+-- The same with a mast and an ear.
 pub words_complete : (asked : Option Request) (mast mast_now : MastState) (ear ear_now : EarState) (before now : ShelfState) (s : Status)
     → QuietAnswers (words_meaning asked mast mast_now ear ear_now) before now s → Completes (words_meaning asked mast mast_now ear ear_now) before now s
 words_complete asked mast mast_now ear ear_now = completes (words_meaning asked mast mast_now ear ear_now) (words_facts asked mast mast_now ear ear_now).inputs
@@ -59,7 +59,7 @@ pub quiet_given : (words : List (List ℕ)) (before now before2 now2 : ShelfStat
     → GaveOne (quiet_meaning (asked_of words)) before now before2 now2 s s2
 quiet_given words = one_given (quiet_meaning (asked_of words)) (quiet_one (asked_of words))
 
--- What its inputs decide means the same over every mast and ear: what it means without them.
+-- What the inputs decide means the same over every mast and ear: what it means without them.
 means_quietly : (asked : Option Request) (mast mast_now : MastState) (ear ear_now : EarState) → IsDecided asked → words_meaning asked mast mast_now ear ear_now ≡ quiet_meaning asked
 means_quietly (Some (AsksRun deck tape)) mast mast_now ear ear_now decided = absurd decided
 means_quietly (Some (AsksCast deck port)) mast mast_now ear ear_now decided = absurd decided

@@ -21,7 +21,7 @@ use Rattle.air_cli.specs.Truths.{IsTrueScript, IsTrueTape}
 
 -- ---- the programs
 
--- Where a deck has no replans, its own program alone has to be short enough.
+-- If a deck has no replans, only its own program has to be short enough.
 pub short_programs : (d : Deck) → d.replans ≡ [] → length (program (disks_in d 0)) ≤ MOST_SLOTS → HasShortPrograms d
 short_programs d none short = each_edition (λ specs. length (program (cut (order (rates_in d)) specs)) ≤ MOST_SLOTS) d none short
 

@@ -34,7 +34,7 @@ use Rattle.air_cli.specs.ToldInputs.{TellSameInputs, TellsInputs}
 use Rattle.air_cli.specs.Answers.{NoCountRose}
 use Rattle.air_cli.proofs.InputLemmas.{CommandFacts, deck_told, of_told, runs_fits, unread_fits}
 
--- Nor is a tape heard.
+-- If the deck can't be run, the tape isn't heard.
 pub unrunnable_tune : (deck tape : List ℕ) (before now : ShelfState) (s : Status) → UnrunnableCause deck before now s → TuneCause deck tape before now s
 unfolding TuneCause UnrunnableCause DeckCause UnreadCause
 unrunnable_tune deck tape before now (status.TapeCut at) h = absurd h
@@ -46,7 +46,7 @@ unfolding TuneCause UnheardCause
 unheard_tune deck tape before now (status.TapeCut at) can h = (can, h)
 unheard_tune deck tape before now s can h = inr (can, h)
 
--- Why a tape wasn't heard, told of the moment before the deck was read.
+-- Why a tape wasn't heard, stated for the moment before the deck was read.
 pub unheard_since : (tape : List ℕ) (most : ℕ) (before mid now : ShelfState) (s : Status) → mid.told.file tape ≡ before.told.file tape → KeepsCounts before.faults mid.faults
     → UnheardCause tape most mid now s → UnheardCause tape most before now s
 unfolding UnheardCause

@@ -1,5 +1,5 @@
--- The whole records at the front of bytes, and what follows them: nothing, or what ends inside its first record.
--- `whole_to_end` and `whole_before_cut` are what a reading tells of them, `read_alone` what they are read as alone.
+-- The whole records at the beginning of bytes, and what follows them: nothing, or bytes that end inside their first record. `whole_to_end` and
+-- `whole_before_cut` say what a reading has of them, `read_alone` what they are read as alone.
 use Rattle.std.proofs.Common.{◌≡◌, ◌≤◌, ◌*◌, ◌++◌, ◌∙◌, ℕ, List, [], ◌∷◌, Option, Some, None, refl, length, take, drop, sym, ap, subst, inl, inr, arith, length-append}
 use Rattle.std.proofs.lemmas.List.{drop_all, drop_at, take_all, take_at}
 use Rattle.std.proofs.lemmas.Grind.{flat_map-append}
@@ -26,7 +26,7 @@ told_before_cut piece n rs (Some p) same t here =
       rest = inr (ap ends_inside tail ∙ b.cut);
     }
 
--- Where a piece is cut, the whole records stand before the cut.
+-- If a piece is cut, the whole records come before the cut.
 pub whole_before_cut : (piece : List ℕ) (n : ℕ) → AllBytes piece → Some n ≡ (tape_read piece).cut → AreWholeRecords piece n
 whole_before_cut piece n all here = told_before_cut piece n (tape_read piece).records (tape_read piece).cut refl (tells (length piece) 0 piece all (omega arith)) (sym here)
 
@@ -35,7 +35,7 @@ unfolding Tells
 told_whole piece rs None t here = t
 told_whole piece rs (Some p) t here = absurd (cc here)
 
--- Where it isn't, they are all of it.
+-- If it isn't cut, they are all of it.
 pub whole_to_end : (piece : List ℕ) → AllBytes piece → None ≡ (tape_read piece).cut → AreWholeRecords piece (length piece)
 whole_to_end piece all here =
     let t = told_whole piece (tape_read piece).records (tape_read piece).cut (tells (length piece) 0 piece all (omega arith)) (sym here) in
@@ -51,12 +51,12 @@ read_alone {piece} {n} front =
     let rs = (tape_read piece).records in
     ap (λ bytes. tape_read bytes) front.whole.1 ∙ whole_read rs (length (tape_of rs)) 0 front.whole.0 (omega arith)
 
--- The tape of records and then others is the tape of the ones before that of the others.
+-- The tape of some records and then others is the tape of the first and then that of the others.
 pub tape_joined : (rs more : List (List ℕ)) → tape_of (rs ++ more) ≡ tape_of rs ++ tape_of more
 unfolding tape_of
 tape_joined rs more = flat_map-append record_bytes rs more
 
--- Each record takes four bytes at least.
+-- Each record has at least four bytes.
 pub many_bytes : (rs : List (List ℕ)) → 4 * length rs ≤ length (tape_of rs)
 unfolding tape_of
 many_bytes [] = omega arith

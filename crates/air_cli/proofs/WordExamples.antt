@@ -1,4 +1,4 @@
--- What words ask for, computed at the ends of their ranges; and what words that are no command mean.
+-- What words ask for, computed at the ends of their ranges, and what words that are no command mean.
 use Rattle.std.specs.Prelude.{◌≡◌, [], ◌∷◌, Some, None, true, false, codes, refl}
 use Rattle.air_base.specs.Numbers.{number_of}
 use Rattle.air_devices.specs.Counts.{one_count}

@@ -15,12 +15,12 @@ use Rattle.air_report.specs.ReportGrammar.{HasReportFault}
 use Rattle.air_report.specs.declared.reading.limits.TheConstants.{MOST_REPORT_BYTES}
 use Rattle.air_cli.specs.Meanings.{Meaning, no_command}
 
--- There are a well-made deck and the bytes of a report, those of the named files where they are told, and this is so of them.
+-- Some well-made deck and some bytes of a report have this property. If the named files are told, these are their deck and their bytes.
 abbrev pub HasReport : List ℕ → List ℕ → ShelfState → (Deck → List ℕ → Type 0) → Type 0
 HasReport deck report before P = HasDeck deck before (λ d. HasBytes report before (λ bytes. (length bytes ≤ MOST_REPORT_BYTES) × P d bytes))
 
--- Why it is refused: its deck, whatever the length of the deck's programs; or there is one, and the report can't be read; or it was
--- read to its end, and has a fault, or too much would be replayed.
+-- Why it is refused. There is no deck, of programs of any length; or there is one, but the report can't be read. Or the report was read to its end,
+-- and has a fault or is too much to replay.
 unfoldable pub AuditCause : List ℕ → List ℕ → ShelfState → ShelfState → Status → Type 0
 AuditCause deck report before now (status.Report row kind) =
     IsAtEnd (now.told.left report) × HasReport deck report before (λ d bytes. HasReportFault d bytes row kind)
@@ -28,14 +28,13 @@ AuditCause deck report before now (status.TooMuch product) =
     IsAtEnd (now.told.left report) × HasReport deck report before (λ d bytes. IsTooMuch d bytes product)
 AuditCause deck report before now s = DeckCause deck before now s ⊎ (HasDeck deck before (λ d. ⊤) × UnreadCause report MOST_REPORT_BYTES before now s)
 
--- What it gives: there are a well-made deck and the bytes of a report, those of the named files where they are told; and this is the
--- text of the report's findings, which are true, and no tape. Something differs exactly where one of them does.
+-- What it gives: the text of the report's findings, which are true, and no tape. They are findings of some well-made deck and some bytes of a report,
+-- those of the named files if they are told. Something differs if and only if one of the findings does.
 unfoldable pub AuditGives : List ℕ → List ℕ → ShelfState → ReportAndTape → Type 0
 AuditGives deck report before given =
     (found : List Finding) × (given ≡ record { text = findings_text found; tape = []; differs = some_differ found }) × HasReport deck report before (λ d bytes. IsAudit d bytes found)
 
--- It reads its deck, of which nothing is asked, and the report, which must be one of the deck and not too much to replay, and
--- writes no output.
+-- It reads its deck, which may be any, and the report, which must be one of the deck and not too much to replay. It writes no output.
 abbrev pub audit_meaning : List ℕ → List ℕ → Meaning
 audit_meaning deck report = record no_command {
   IsInput = λ name. (name ≡ deck) ⊎ (name ≡ report);

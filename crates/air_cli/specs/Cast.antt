@@ -1,6 +1,6 @@
--- The command `cast DECK PORT`. What it means is told of the mast, too, as the call found it and as it left it.
+-- The command `cast DECK PORT`. Its meaning is also about the mast, before and after the call.
 use Rattle.std.specs.Prelude.{◌≡◌, ◌⊎◌, ◌≤◌, ℕ, false, List, [], Some, ⊤}
-use Rattle.deck_runs.specs.Casts.{IsCastPart, all_sent}
+use Rattle.deck_runs.specs.Casts.{IsCastBeginning, all_sent}
 use Rattle.air_devices.specs.Counts.{Rose}
 use Rattle.air_devices.specs.Masts.{Changes, MastState}
 use Rattle.air_devices.specs.Shelves.{ShelfState}
@@ -17,8 +17,8 @@ use Rattle.air_model.specs.Runs.{IsRun, Run}
 use Rattle.air_cli.specs.Meanings.{Meaning, no_command}
 use Rattle.air_cli.specs.Run.{CanRun, RunCause}
 
--- This is the report of a run of the deck, and no tape; it tells the run's history, and all that is true of a run is true of it. Exactly the
--- buckets of that history were sent to the port, and then the end; no call of the mast failed.
+-- This is the report of a run of the deck, and no tape. The report determines the run's history, and all that is true of a run is true of it. Exactly
+-- the buckets of that history were sent to the port, and then the end. No call of the mast failed.
 pub record IsCast (d : Deck) (to : ℕ) (before now : MastState) (given : ReportAndTape) (run : Run) : Type 0 where
   pub run_is : IsRun d run
   pub true_is : IsTrueRun d run
@@ -28,34 +28,34 @@ pub record IsCast (d : Deck) (to : ℕ) (before now : MastState) (given : Report
   pub calm : now.faults ≡ before.faults
   pub port : now.port ≡ Some to
 
--- A call of the mast failed: to the port were sent just so many buckets of a whole history of the deck, the first ones, and no end.
+-- A call of the mast failed: exactly the first `at` buckets of a whole history of the deck were sent to the port, and no end.
 pub record IsBrokenCast (d : Deck) (to at : ℕ) (before now : MastState) : Type 0 where
   pub rose : Rose before.faults now.faults
-  pub sent : IsCastPart d at before.told now.told
+  pub sent : IsCastBeginning d at before.told now.told
   pub port : now.port ≡ Some to
 
--- The first buckets of a whole history of the deck were sent to the port, none or some or all, and after all maybe the end.
+-- The first buckets of a whole history of the deck were sent to the port, maybe none or all, and after all maybe the end.
 pub record HasSent (d : Deck) (to : ℕ) (before now : MastState) : Type 0 where
-  pub sent : ((count : ℕ) × IsCastPart d count before.told now.told)
+  pub sent : ((count : ℕ) × IsCastBeginning d count before.told now.told)
       ⊎ ((H : List Event) × IsWhole d H × Changes (λ _. all_sent (deck_bytes d H)) before.told now.told)
   pub later : before.faults ≤ now.faults
   pub port : now.port ≡ Some to
 
--- Why it is refused: the mast failed, where there is a well-made deck that can be run, the one that the named file spells where it is
--- told; else why a run is refused, and the mast is as it was.
+-- Why it is refused. The mast failed, and some well-made deck can be run, that of the named file if it is told; or a run is refused for this reason,
+-- and the mast is as it was.
 unfoldable pub CastCause : List ℕ → ℕ → MastState → MastState → ShelfState → ShelfState → Status → Type 0
 CastCause deck to old new before now (status.AirFault at) =
     (d : Deck) × SpellsDeck deck before d × IsDeck d × CanRun d × IsBrokenCast d to at old new
 CastCause deck to old new before now status.NoMemory = ⊤
 CastCause deck to old new before now s = RunCause deck before now s × (new ≡ old)
 
--- What it gives, and what it sent: there is a well-made deck that can be run, the one that the named file spells where it is told,
--- and this is the report of a run of it, which was cast. Nothing in it differs.
+-- What it gives, and what it sent: the report of a cast run of some well-made deck that can be run, that of the named file if it is told. Nothing in
+-- it differs.
 unfoldable pub CastGives : List ℕ → ℕ → MastState → MastState → ShelfState → ReportAndTape → Type 0
 CastGives deck to old new before given =
     (given.differs ≡ false) × ((d : Deck) × SpellsDeck deck before d × IsDeck d × CanRun d × ((run : Run) × IsCast d to old new given run))
 
--- It reads its deck, which must be one that can be run, and writes no output; it succeeds where no call of the mast failed.
+-- It reads its deck, which must be one that can be run, and writes no output. It succeeds if no call of the mast failed.
 abbrev pub cast_meaning : List ℕ → ℕ → MastState → MastState → Meaning
 cast_meaning deck to old new = record no_command {
   IsInput = λ name. name ≡ deck;

@@ -12,7 +12,7 @@ use Rattle.air_cli.specs.Split.{split_meaning}
 use Rattle.air_cli.specs.Tune.{tune_meaning}
 use Rattle.air_cli.specs.Words.{Request, AsksAudit, AsksCast, AsksDrill, AsksListen, AsksPlan, AsksRun, AsksScript, AsksSplit, AsksTune}
 
--- What this command of the code asks for, each file by the bytes of its name.
+-- What a command of the code asks for, with each file by the bytes of its name.
 abbrev pub asked_by : Command → Request
 asked_by (command.Plan deck) = AsksPlan deck.now
 asked_by (command.Split deck) = AsksSplit deck.now
@@ -24,7 +24,7 @@ asked_by (command.Run deck tape) = AsksRun deck.now tape.now
 asked_by (command.Cast deck port) = AsksCast deck.now port
 asked_by (command.Listen deck port) = AsksListen deck.now port
 
--- What words mean to `air_quiet` that ask for this, or for nothing. A command that waits is none of its own: the words are no command.
+-- What a request, or none, means to `air_quiet`. For a command that waits it is the same as for words that are no command.
 abbrev pub quiet_meaning : Option Request → Meaning
 quiet_meaning (Some (AsksPlan deck)) = plan_meaning deck
 quiet_meaning (Some (AsksSplit deck)) = split_meaning deck

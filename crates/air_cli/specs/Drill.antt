@@ -11,7 +11,7 @@ use Rattle.air_cli.specs.ReportsAndTapes.{ReportAndTape}
 unfoldable pub DrillGives : ℕ → ℕ → ReportAndTape → Type 0
 DrillGives seed size given = IsTrueScript (drill_deck seed size) × (given ≡ record { text = drill_output seed size; tape = []; differs = false })
 
--- It reads no file and writes no output, nothing need be told for it to succeed, and it is refused out of memory alone.
+-- It reads no file and writes no output. Nothing has to be told for it to succeed, and it is refused only out of memory.
 abbrev pub drill_meaning : ℕ → ℕ → Meaning
 drill_meaning seed size = record no_command {
   Suits = λ before. ⊤;

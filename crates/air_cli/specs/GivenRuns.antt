@@ -9,7 +9,7 @@ use Rattle.air_model.specs.Runs.{IsRun, Run}
 use Rattle.deck_runs.specs.RunTapes.{IsLongRun}
 use Rattle.deck_runs.specs.RunTruths.{IsTrueRun}
 
--- This is report and tape of a run of the deck, and all that is true of one is true of it.
+-- These are the report and the tape of a run of the deck, and all that is true of a run is true of it.
 pub record IsGivenRun (deck : Deck) (given : ReportAndTape) (run : Run) : Type 0 where
   pub run_is : IsRun deck run
   pub true_is : IsTrueRun deck run

@@ -1,7 +1,7 @@
--- The headline, on one page: what stands where a call succeeded, in words of the model.
+-- The headline, on one page: what holds if a call succeeded, in terms of the model.
 --
--- `WhereTold x P` is P of what a device tells, and says nothing where it tells nothing. The devices in memory tell all: over them each
--- field is exact. A real file, terminal or socket tells nothing: over it there are such a deck, history and report all the same.
+-- `WhereTold x P` is P of what a device tells, and says nothing if the device tells nothing. The devices in memory tell everything: over them each
+-- field is exact. A real file, terminal or socket tells nothing: over it the fields still say that there are such a deck, history and report.
 use Rattle.std.specs.Prelude.{◌≡◌, ◌↔◌, ℕ, false, List, [], ◌++◌, map, take, get_or, All, IfSome, IsTrue, Option, Some, None, ⊤}
 use Rattle.air_base.specs.declared.verdicts.Policy.TheVariants.{FMatrix}
 use Rattle.air_base.specs.declared.verdicts.VerdictKind.TheVariants.{Accept}
@@ -42,17 +42,17 @@ use Rattle.air_cli.specs.Words.{Request, AsksAudit, AsksCast, AsksListen, AsksRu
 
 -- ---- what is told
 
--- Where the shelf tells the named output, it holds these bytes now.
+-- If the shelf tells the named output, the output now holds these bytes.
 abbrev pub NowHolds : List ℕ → List ℕ → ShelfState → ShelfState → Type 0
 NowHolds name bytes before now = WhereTold (before.told.output name) (λ old. now.told.output name ≡ Some bytes)
 
--- Where the shelf tells what is printed, this text was added to it.
+-- If the shelf tells what is printed, this text was added to it.
 abbrev pub NowPrints : List ℕ → ShelfState → ShelfState → Type 0
 NowPrints text before now = WhereTold before.told.printed (λ said. now.told.printed ≡ Some (said ++ text))
 
 -- ---- verdicts
 
--- The reads on which a verdict was decided: those of its line, and after them the refused one where it is an abort or aged.
+-- The reads on which a verdict was decided: those of its line, and after them the refused one if it is an abort or aged.
 abbrev pub judged_on : VerdictLine → List ReadAt
 judged_on line = decided_on line.verdict.kind (places_of line.reads)
 
@@ -60,10 +60,10 @@ judged_on line = decided_on line.verdict.kind (places_of line.reads)
 abbrev pub asked_query : Deck → VerdictLine → List ℕ
 asked_query d line = get_or (get_or d.queries line.reader []) line.verdict.query []
 
--- A verdict is right by a history. Its reads are consistent, they have the values that the updates from which they descend leave when
--- these run alone, and they share the cycle that the policy gives them. Under F-Matrix it is aged exactly if the reads on which it was
--- decided lie too far apart for the deck's version; else it is an accept exactly if they are all of its query and are consistent, and an
--- abort exactly if they aren't consistent.
+-- A verdict is right by a history. Its reads are consistent, they have the values that the updates from which they descend leave when these run
+-- alone, and they share the cycle that the policy gives them. Under F-Matrix it is aged if and only if the reads on which it was decided are too far
+-- apart for the deck's version. Else it is an accept if and only if they are all of its query and are consistent, and an abort if and only if they
+-- aren't consistent.
 pub record IsRightVerdict (d : Deck) (H : List Event) (line : VerdictLine) : Type 0 where
   pub consistent : IsConsistent H (places_of line.reads)
   pub values : All BasesRead H → All (λ r. r.value ≡ table (values_of (values_in d)) (alone H (places_of line.reads)) r.item) line.reads
@@ -74,23 +74,23 @@ pub record IsRightVerdict (d : Deck) (H : List Event) (line : VerdictLine) : Typ
   pub aborted : d.settings.policy ≡ FMatrix → IsAbort line.verdict.kind
       ↔ ((are_far d.settings.version (judged_on line) ≡ false) × (IsConsistent H (judged_on line) → ⊥))
 
--- A report has the verdicts and counts that a history decides for the deck's readers, each over what it heard; and each verdict is right.
+-- A report has the verdicts and counts that a history decides for the deck's readers, each over what it heard, and each verdict is right.
 pub record IsJudgedReport (d : Deck) (H : List Event) (heard : ℕ → List (List ℕ)) (report : Report) : Type 0 where
   pub verdicts : report.verdicts ≡ verdict_lines (sessions_over (by_history (scheme_in d) (values_in d) H) d heard)
   pub counts : report.counts ≡ counts_lines (sessions_over (by_history (scheme_in d) (values_in d) H) d heard)
   pub right : All (IsRightVerdict d H) report.verdicts
 
--- A report has what the deck's readers decide over what all of them heard, by the entries that came with it. Each history that aired what
--- of it fits the deck decides the same, and each verdict is right by that history.
+-- A report has what the deck's readers decide over what all of them heard, by the entries that came with it. Each history that aired the part of it
+-- that fits the deck decides the same, and each verdict is right by that history.
 pub record IsHeardReport (d : Deck) (heard : List (List ℕ)) (report : Report) : Type 0 where
   pub decided : report ≡ session_report [] (sessions_over (by_entries (scheme_in d)) d (λ r. heard))
   pub judged : (H : List Event) → IsAired (values_in d) (air_of d) H (map bucket_in heard) → IsJudgedReport d H (λ r. heard) report
 
 -- ---- commands
 
--- `run DECK TAPE`: the file spells a well-made deck, and a history has each update of the deck once, each updater's in order, and its
--- cycles. This history was aired, and its tape written. Its report was printed, and tells no other history of the deck. Each reader's
--- verdicts are those that the history decides over what came through the reader's ether, and right. The monitors saw the history.
+-- `run DECK TAPE`: the file spells a well-made deck, and a history has each update of the deck once, each updater's in order, and its cycles. This
+-- history was aired, and its tape written. Its report was printed, and determines the history. Each reader's verdicts are those that the history
+-- decides over what came through the reader's ether, and right. The monitors saw the history.
 pub record RunStands (deck tape : List ℕ) (before now : ShelfState) : Type 0 where
   pub d : Deck
   pub report : Report
@@ -106,9 +106,9 @@ pub record RunStands (deck tape : List ℕ) (before now : ShelfState) : Type 0 w
   pub printed : NowPrints (report_text report) before now
   pub one : TellsHistory d report.history (report_text report)
 
--- `script DECK` and `script DECK TAPE`: the file spells a well-made deck. The history of its script was aired, and its tape written where one
--- is named. Its report was printed: each reader's verdicts are those that the history decides over what came through the reader's ether,
--- and right. No monitor saw it.
+-- `script DECK` and `script DECK TAPE`: the file spells a well-made deck. The history of its script was aired, and its tape written if one is named.
+-- Its report was printed: each reader's verdicts are those that the history decides over what came through the reader's ether, and right. No monitor
+-- saw it.
 pub record ScriptStands (deck : List ℕ) (tape : Option (List ℕ)) (before now : ShelfState) : Type 0 where
   pub d : Deck
   pub report : Report
@@ -133,7 +133,7 @@ pub record TuneStands (deck tape : List ℕ) (before now : ShelfState) : Type 0 
   pub heard : IsHeardReport d records report
   pub printed : NowPrints (report_text report) before now
 
--- `cast DECK PORT`: as `run`, but no reader hears it here. Exactly the buckets of the history were sent to the port, and then the end.
+-- `cast DECK PORT`: like `run`, but no reader hears it here. Exactly the buckets of the history were sent to the port, and then the end.
 pub record CastStands (deck : List ℕ) (port : ℕ) (mast mast_now : MastState) (before now : ShelfState) : Type 0 where
   pub d : Deck
   pub report : Report
@@ -150,8 +150,8 @@ pub record CastStands (deck : List ℕ) (port : ℕ) (mast mast_now : MastState)
   pub printed : NowPrints (report_text report) before now
   pub one : TellsHistory d report.history (report_text report)
 
--- `listen DECK PORT`: the file spells a well-made deck. Its readers heard the first datagrams on the port, each cut to the most bytes that are
--- heard, as many as the deck says, or all. The report over these was printed.
+-- `listen DECK PORT`: the file spells a well-made deck. Its readers heard the first datagrams on the port, as many as the deck says, or all; each was
+-- shortened to the greatest number of bytes that is heard. The report over these was printed.
 pub record ListenStands (deck : List ℕ) (port : ℕ) (ear ear_now : EarState) (before now : ShelfState) : Type 0 where
   pub d : Deck
   pub datagrams : List (List ℕ)
@@ -163,8 +163,8 @@ pub record ListenStands (deck : List ℕ) (port : ℕ) (ear ear_now : EarState) 
   pub heard : IsHeardReport d datagrams report
   pub printed : NowPrints (report_text report) before now
 
--- `audit DECK REPORT`: the files spell a well-made deck and a report of it. The findings of the report were printed. The status is 0
--- exactly if the replay over the report's own history gives every line: each verdict with the values of its reads, and each total.
+-- `audit DECK REPORT`: the files spell a well-made deck and a report of it. The findings of the report were printed. The status is 0 if and only if
+-- the replay over the report's own history gives every line: each verdict with the values of its reads, and each total.
 pub record AuditStands (deck report : List ℕ) (before now : ShelfState) (s : Status) : Type 0 where
   pub d : Deck
   pub read : ReadReport
@@ -178,15 +178,15 @@ pub record AuditStands (deck report : List ℕ) (before now : ShelfState) (s : S
 
 -- ---- calls
 
--- What stands where `air_quiet` succeeded with this status. Of `plan`, `split` and `drill`, and of words that are no
--- command, `answers` says all.
+-- What holds if `air_quiet` succeeded with this status. For `plan`, `split` and `drill`, and for words that are no command, the clause `answers` says
+-- everything.
 abbrev pub QuietHeadline : Option Request → ShelfState → ShelfState → Status → Type 0
 QuietHeadline (Some (AsksScript deck tape)) before now s = ScriptStands deck tape before now
 QuietHeadline (Some (AsksTune deck tape)) before now s = TuneStands deck tape before now
 QuietHeadline (Some (AsksAudit deck report)) before now s = AuditStands deck report before now s
 QuietHeadline other before now s = ⊤
 
--- What stands where `air_main` did, told of mast and ear as the call found them and as it left them.
+-- What holds if `air_main` succeeded, with the mast and the ear before and after the call.
 abbrev pub Headline : Option Request → MastState → MastState → EarState → EarState → ShelfState → ShelfState → Status → Type 0
 Headline (Some (AsksRun deck tape)) mast mast_now ear ear_now before now s = RunStands deck tape before now
 Headline (Some (AsksCast deck port)) mast mast_now ear ear_now before now s = CastStands deck port mast mast_now before now

@@ -13,8 +13,8 @@ use Rattle.air_report.specs.declared.status.Status.TheVariants as status
 use Rattle.air_cli.specs.NamedFiles.{HasBytes, UnreadCause}
 use Rattle.listeners.specs.declared.readers.Sessions.{Sessions}
 
--- There are bytes, at most so many and those of the named file where they are told, which are a whole tape: and what the sessions tell
--- is that of the deck's readers over its records.
+-- Some bytes, at most `most`, are a whole tape, and the sessions are those of the deck's readers over its records. If the named file is told, these
+-- are its bytes.
 pub record AreFileSessions (name : List ℕ) (most : ℕ) (before : ShelfState) (d : Deck) (sessions : Sessions) : Type 0 where
   pub bytes : List ℕ
   pub told : ToldIs (before.told.file name) bytes
@@ -23,8 +23,8 @@ pub record AreFileSessions (name : List ℕ) (most : ℕ) (before : ShelfState) 
   pub verdicts : sessions.verdicts.items ≡ verdict_lines (sessions_over (by_entries (scheme_in d)) d (λ r. (tape_read bytes).records))
   pub counts : sessions.counts.items ≡ counts_lines (sessions_over (by_entries (scheme_in d)) d (λ r. (tape_read bytes).records))
 
--- Why a named tape couldn't be heard: there are the bytes of one that is cut at this byte, those of the named file where they are told; or
--- its file couldn't be read.
+-- Why a named tape couldn't be heard: some bytes, those of the named file if it is told, are a tape that is cut at this byte; or the file couldn't be
+-- read.
 unfoldable pub UnheardCause : List ℕ → ℕ → ShelfState → ShelfState → Status → Type 0
 UnheardCause name most before now (status.TapeCut at) = HasBytes name before (λ bytes. (length bytes ≤ most) × ((tape_read bytes).cut ≡ Some at))
 UnheardCause name most before now s = UnreadCause name most before now s

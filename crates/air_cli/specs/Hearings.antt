@@ -1,4 +1,4 @@
--- What a deck's readers hear of an ear, and what they leave where it fails.
+-- What a deck's readers hear of an ear, and what holds if the ear fails.
 use Rattle.std.specs.Prelude.{◌≡◌, ◌≤◌, ◌<◌, ℕ, List, length, take, drop, map, All, Option, Some}
 use Rattle.air_model.specs.Aired.{scheme_in}
 use Rattle.air_model.specs.Decks.{Deck}
@@ -18,19 +18,19 @@ use Rattle.air_cli.specs.declared.commands.hearings.TheConstants.{MOST_HEARD_BYT
 abbrev pub heard_bytes : List ℕ → List ℕ
 heard_bytes bytes = take MOST_HEARD_BYTES bytes
 
--- The list is what is heard of the first so many datagrams, or of all where there are fewer.
+-- The list is what is heard of the first `most` datagrams, or of all if there are fewer.
 abbrev pub AreFirstHeard : ℕ → Option (List (List ℕ)) → List (List ℕ) → Type 0
 AreFirstHeard most told heard = WhereTold told (λ waiting. heard ≡ map heard_bytes (take most waiting))
 
--- So many datagrams were taken from the front, or all where there are fewer; the rest is still to be heard.
+-- The first `most` datagrams were taken, or all if there are fewer; the rest is still to be heard.
 abbrev pub TakesUpTo : ℕ → Option (List (List ℕ)) → Option (List (List ℕ)) → Type 0
 TakesUpTo most before now = WhereTold before (λ waiting. now ≡ Some (drop most waiting))
 
--- Just so many datagrams were taken from the front; the rest is still to be heard.
+-- Exactly the first `count` datagrams were taken; the rest is still to be heard.
 abbrev pub TakesJust : ℕ → Option (List (List ℕ)) → Option (List (List ℕ)) → Type 0
 TakesJust count before now = WhereTold before (λ waiting. (count ≤ length waiting) × (now ≡ Some (drop count waiting)))
 
--- Where it is told, this was heard until the end, or until so many datagrams were heard: each has a byte at least, and no more than are heard.
+-- This was heard until the end, or until the greatest number of datagrams was heard. Each has at least a byte, and at most as many as are heard.
 pub record IsHeardOnEar (most : ℕ) (before now : Option (List (List ℕ))) (heard : List (List ℕ)) : Type 0 where
   pub few : length heard ≤ most
   pub each : All (λ bytes. (1 ≤ length bytes) × (length bytes ≤ MOST_HEARD_BYTES)) heard
@@ -44,7 +44,7 @@ pub record AreEarSessions (deck : Deck) (before now : Option (List (List ℕ))) 
   pub verdicts_are : verdicts ≡ verdict_lines (sessions_over (by_entries (scheme_in deck)) deck (λ r. heard))
   pub counts_are : counts ≡ counts_lines (sessions_over (by_entries (scheme_in deck)) deck (λ r. heard))
 
--- What a fault says of the ear: it failed after so many datagrams, fewer than it was to hear; without memory none of its calls failed.
+-- What a fault says of the ear: it failed after `heard` datagrams, fewer than it was to hear; out of memory, none of its calls failed.
 abbrev pub IsHearAnswer : ℕ → EarState → EarState → HearFault → Type 0
 IsHearAnswer most before now (fault.Ear heard) = Rose before.faults now.faults × (heard < most) × TakesJust heard before.told now.told
 IsHearAnswer most before now fault.NoMemory = (now.faults ≡ before.faults) × ((count : ℕ) × (count ≤ most) × TakesJust count before.told now.told)

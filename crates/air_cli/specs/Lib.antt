@@ -26,6 +26,5 @@ pub mod SentTapes
 pub mod Refusals
 pub mod Outputs
 pub mod Deliveries
-pub mod OutputPieces
 pub mod Hearings
 pub mod GivenRuns

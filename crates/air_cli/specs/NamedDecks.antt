@@ -10,20 +10,20 @@ use Rattle.air_report.specs.declared.status.Status.{Status}
 use Rattle.air_report.specs.declared.status.Status.TheVariants as status
 use Rattle.air_cli.specs.NamedFiles.{UnreadCause}
 
--- The named file's bytes, where they are told, spell this deck.
+-- If the named file is told, its bytes spell this deck.
 abbrev pub SpellsDeck : List ℕ → ShelfState → Deck → Type 0
 SpellsDeck name before d = WhereTold (before.told.file name) (λ bytes. (length bytes ≤ MOST_DECK_BYTES) × Spells bytes d)
 
--- There is a well-made deck, the one that the named file spells where it is told, and this is so of it.
+-- Some well-made deck has this property. If the named file is told, it spells that deck.
 abbrev pub HasDeck : List ℕ → ShelfState → (Deck → Type 0) → Type 0
 HasDeck name before P = (d : Deck) × SpellsDeck name before d × IsDeck d × P d
 
--- The named file was read to its end, and its bytes have this fault in place of a deck.
+-- The named file was read to its end, and its bytes don't spell a deck but have this fault.
 pub record IsFaulty (name : List ℕ) (row kind : ℕ) (before now : ShelfState) : Type 0 where
   pub read : IsAtEnd (now.told.left name)
   pub fault : WhereTold (before.told.file name) (λ bytes. (length bytes ≤ MOST_DECK_BYTES) × HasFault bytes row kind)
 
--- Why there is no deck: its file, or its fault.
+-- Why there is no deck: the file can't be read, or has a fault.
 unfoldable pub DeckCause : List ℕ → ShelfState → ShelfState → Status → Type 0
 DeckCause deck before now (status.Deck row kind) = IsFaulty deck row kind before now
 DeckCause deck before now s = UnreadCause deck MOST_DECK_BYTES before now s

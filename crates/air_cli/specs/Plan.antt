@@ -8,8 +8,8 @@ use Rattle.air_cli.specs.RunnableDecks.{HasShortPrograms, UnrunnableCause}
 use Rattle.air_cli.specs.Meanings.{Meaning, no_command}
 use Rattle.air_cli.specs.ReportsAndTapes.{ReportAndTape}
 
--- What it gives: there is a well-made deck whose programs are short enough, the one that the named file spells where it is told; and
--- this is its plan, and no tape. Nothing in it differs.
+-- What it gives: the plan, and no tape, of some well-made deck whose programs are short enough, that of the named file if it is told. Nothing in it
+-- differs.
 unfoldable pub PlanGives : List ℕ → ShelfState → ReportAndTape → Type 0
 PlanGives deck before given =
     (given.differs ≡ false) × ((d : Deck) × SpellsDeck deck before d × IsDeck d × HasShortPrograms d × (given ≡ record { text = plan_output d; tape = []; differs = false }))

@@ -1,7 +1,8 @@
--- Definitions that private steps alone speak of: no public contract cites them, nor what a public type shows.
+-- Definitions of private steps: no public contract cites them.
 pub mod BeforeDelivery
 pub mod Endings
 pub mod Airing
+pub mod OutputPieces
 pub mod Scripting
 pub mod Pieces
 pub mod EarSteps

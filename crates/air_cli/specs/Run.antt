@@ -17,13 +17,13 @@ use Rattle.air_cli.specs.Meanings.{Meaning, no_command}
 abbrev pub CanRun : Deck → Type 0
 CanRun d = HasShortPrograms d × (run_tape_len d ≤ MOST_TAPE_BYTES)
 
--- Why it is refused: its deck can't be run; or there is one that can, and the tape would have so many bytes, more than a tape may have.
+-- Why it is refused: its deck can't be run; or it could be, but the tape would have this number of bytes, more than a tape may have.
 unfoldable pub RunCause : List ℕ → ShelfState → ShelfState → Status → Type 0
 RunCause deck before now (status.TooLong bytes) = HasDeck deck before (λ d. HasShortPrograms d × (bytes ≡ run_tape_len d) × (MOST_TAPE_BYTES < bytes))
 RunCause deck before now s = UnrunnableCause deck before now s
 
--- What it gives: there is a well-made deck that can be run, the one that the named file spells where it is told; and this is report
--- and tape of a run of it, of which all is true that is true of one. Nothing in it differs.
+-- What it gives: the report and the tape of a run of some well-made deck that can be run, that of the named file if it is told. All that is true of a
+-- run is true of it. Nothing in it differs.
 unfoldable pub RunGives : List ℕ → ShelfState → ReportAndTape → Type 0
 RunGives deck before given =
     (given.differs ≡ false) × ((d : Deck) × SpellsDeck deck before d × IsDeck d × CanRun d × ((run : Run) × IsGivenRun d given run))

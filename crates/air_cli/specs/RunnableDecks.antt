@@ -11,13 +11,13 @@ use Rattle.air_cli.specs.NamedDecks.{DeckCause, HasDeck}
 abbrev pub HasShortPrograms : Deck → Type 0
 HasShortPrograms d = AreShort d
 
--- Why the deck isn't planned: one of its programs would be too long, and the first such program has so many slots.
+-- Why the deck isn't planned: one of its programs would be too long, and the first such program has this number of slots.
 unfoldable pub LengthCause : Deck → Status → Type 0
 LengthCause d (status.PlanTooLong slots) = IsFirstTooLong d slots
 LengthCause d status.NoMemory = ⊤
 LengthCause d other = ⊥
 
--- Why there is no deck that can be run: there is no deck; or there is one, and one of its programs would be too long.
+-- Why there is no deck that can be run: there is no deck; or there is one, but one of its programs would be too long.
 unfoldable pub UnrunnableCause : List ℕ → ShelfState → ShelfState → Status → Type 0
 UnrunnableCause deck before now (status.PlanTooLong slots) = HasDeck deck before (λ d. IsFirstTooLong d slots)
 UnrunnableCause deck before now s = DeckCause deck before now s

@@ -11,20 +11,19 @@ use Rattle.air_cli.specs.Meanings.{Meaning, no_command}
 use Rattle.air_cli.specs.ReportsAndTapes.{ReportAndTape}
 use Rattle.air_cli.specs.Truths.{IsTrueScript}
 
--- Why it is refused: its deck can't be run; or there is one that can, and the tape would have so many bytes, more than a tape may have.
+-- Why it is refused: its deck can't be run; or it could be, but the tape would have this number of bytes, more than a tape may have.
 unfoldable pub ScriptCause : List ℕ → ShelfState → ShelfState → Status → Type 0
 ScriptCause deck before now (status.TooLong bytes) = HasDeck deck before (λ d. HasShortPrograms d × (bytes ≡ length (script_tape d)) × (MOST_TAPE_BYTES < bytes))
 ScriptCause deck before now s = UnrunnableCause deck before now s
 
--- What it gives: there is a well-made deck that can be run and whose tape is short enough, the one that the named file spells where it
--- is told; the sessions of its script are true, and this is its report and its tape. Nothing in it differs.
+-- What it gives: the report and the tape of the script of some well-made deck that can be run and whose tape is short enough, that of the named file
+-- if it is told. The sessions of the script are true. Nothing in the report differs.
 unfoldable pub ScriptGives : List ℕ → ShelfState → ReportAndTape → Type 0
 ScriptGives deck before given =
     (given.differs ≡ false) × HasDeck deck before (λ d. HasShortPrograms d × (length (script_tape d) ≤ MOST_TAPE_BYTES) × IsTrueScript d
     × (given ≡ record { text = script_output d; tape = script_tape d; differs = false }))
 
--- It reads its deck, which must be one that can be run and have a tape that is short enough, and writes the tape piece by piece
--- where one is named.
+-- It reads its deck, which must be one that can be run and have a short enough tape. It writes the tape piece by piece, if one is named.
 abbrev pub script_meaning : List ℕ → Option (List ℕ) → Meaning
 script_meaning deck tape = record no_command {
   IsInput = λ name. name ≡ deck;

@@ -16,23 +16,23 @@ pub record CanBeSplit (deck : Deck) : Type 0 where
   pub few : search_size deck ≤ MOST_SPLIT
   pub short : (sizes : List ℕ) × IsShortSplit deck sizes
 
--- Why it is refused: there is no deck; or there is one, whatever the length of its own program, and the search would go over this product,
--- which is too much; or it wouldn't, and all splits are too long, of which the shortest has this number of slots.
+-- Why it is refused. There is no deck; or there is one, of a program of any length, but the search would be of this size, which is too much. Or it
+-- would not, but all splits are too long, the shortest with this number of slots.
 unfoldable pub SplitCause : List ℕ → ShelfState → ShelfState → Status → Type 0
 SplitCause deck before now (status.TooMuch product) = HasDeck deck before (λ d. (product ≡ search_size d) × (MOST_SPLIT < product))
 SplitCause deck before now (status.PlanTooLong slots) = HasDeck deck before (λ d. (search_size d ≤ MOST_SPLIT) × AreAllTooLong d slots)
 SplitCause deck before now s = DeckCause deck before now s
 
--- Why no best split of the deck is given: the search would go over this product, which is too much; or it wouldn't, and all splits are too long, of
--- which the shortest has this number of slots.
+-- Why no best split of the deck is given. The search would be of this size, which is too much; or it would not, but all splits are too long, the
+-- shortest with this number of slots.
 unfoldable pub UnsplitCause : Deck → Status → Type 0
 UnsplitCause d (status.TooMuch product) = (product ≡ search_size d) × (MOST_SPLIT < product)
 UnsplitCause d (status.PlanTooLong slots) = (search_size d ≤ MOST_SPLIT) × AreAllTooLong d slots
 UnsplitCause d status.NoMemory = ⊤
 UnsplitCause d other = ⊥
 
--- What it gives: there is a well-made deck that isn't too much to search, the one that the named file spells where it is told; and this is
--- the text of its best split, and no tape. Nothing in it differs.
+-- What it gives: the text of the best split, and no tape, of some well-made deck that isn't too much to search, that of the named file if it is told.
+-- Nothing in it differs.
 unfoldable pub SplitGives : List ℕ → ShelfState → ReportAndTape → Type 0
 SplitGives deck before given =
     (given.differs ≡ false) × ((d : Deck) × SpellsDeck deck before d × IsDeck d × (search_size d ≤ MOST_SPLIT)

@@ -8,10 +8,9 @@ use Rattle.air_model.specs.Aired.{IsAired, air_of}
 use Rattle.air_model.specs.ReceiverLaws.{IsTrueSession}
 use Rattle.air_model.specs.Outputs.{ether_of}
 
--- The sessions of all readers of the deck, over what each hears, are true of the history: by the entries they are what the
--- history decides. In each line, under every policy, the reads are consistent and have the values that their ancestors alone
--- leave; under Datacycle all are of the newest cycle read, and under R-Matrix of the current one. Under F-Matrix each verdict
--- is exact.
+-- The sessions of all readers of the deck, over what each hears, are true of the history: by the entries they are what the history decides. In each
+-- line, under every policy, the reads are consistent and have the values that their ancestors alone leave. Under Datacycle all are of the newest
+-- cycle read, and under R-Matrix of the current one. Under F-Matrix each verdict is exact.
 abbrev pub AreTrue : Deck → List Event → (ℕ → List (List ℕ)) → Type 0
 AreTrue d H heard = (r : ℕ) → r < length d.readers → IsTrueSession d H r (map bucket_in (heard r))
 
@@ -21,7 +20,7 @@ pub record IsTrueScript (d : Deck) : Type 0 where
   pub bases : All BasesRead (script_history d)
   pub sessions : AreTrue d (script_history d) (ether_of d (script_history d))
 
--- Over the records of a tape the sessions are true of every history that aired those of the records that fit the deck; it needn't be the
--- deck's. So what `tune` prints is what that history decides.
+-- The sessions over the records of a tape are true of every history that aired the records that fit the deck, even if it isn't a history of the deck.
+-- So what `tune` prints is what that history decides.
 abbrev pub IsTrueTape : Deck → List (List ℕ) → Type 0
 IsTrueTape d records = (H : List Event) → IsAired (values_in d) (air_of d) H (map bucket_in records) → AreTrue d H (λ r. records)

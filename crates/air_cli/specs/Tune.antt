@@ -14,8 +14,7 @@ use Rattle.air_cli.specs.Meanings.{Meaning, no_command}
 use Rattle.air_cli.specs.ReportsAndTapes.{ReportAndTape}
 use Rattle.air_cli.specs.Truths.{IsTrueTape}
 
--- Why it is refused: its deck can't be run; or there is one that can, and the tape can't be read, or there are the bytes of one that is
--- cut at this byte.
+-- Why it is refused: its deck can't be run; or it could be, but the tape can't be read, or is cut at this byte.
 unfoldable pub TuneCause : List ℕ → List ℕ → ShelfState → ShelfState → Status → Type 0
 TuneCause deck tape before now (status.TapeCut at) = HasDeck deck before HasShortPrograms × HasBytes tape before (λ bytes. (length bytes ≤ MOST_TAPE_BYTES) × ((tape_read bytes).cut ≡ Some at))
 TuneCause deck tape before now s = UnrunnableCause deck before now s ⊎ (HasDeck deck before HasShortPrograms × UnreadCause tape MOST_TAPE_BYTES before now s)
@@ -24,15 +23,15 @@ TuneCause deck tape before now s = UnrunnableCause deck before now s ⊎ (HasDec
 abbrev pub tune_given : Deck → List (List ℕ) → ReportAndTape
 tune_given d records = record { text = tune_output d records; tape = []; differs = false }
 
--- These bytes are a whole tape, and this is the report of the deck's readers over its records, of which the sessions are true.
+-- These bytes are a whole tape, and this is the report of the deck's readers over its records. The sessions in it are true.
 pub record IsTuned (d : Deck) (given : ReportAndTape) (bytes : List ℕ) : Type 0 where
   pub fits : length bytes ≤ MOST_TAPE_BYTES
   pub whole : (tape_read bytes).cut ≡ None
   pub true_is : IsTrueTape d (tape_read bytes).records
   pub given_is : given ≡ tune_given d (tape_read bytes).records
 
--- What it gives: there are a well-made deck that can be run and the bytes of a whole tape, those of the named files where they are
--- told; and this is the report over them. Nothing in it differs.
+-- What it gives: the report of the readers of some well-made deck that can be run over some bytes that are a whole tape. If the named files are told,
+-- these are their deck and their bytes. Nothing in the report differs.
 unfoldable pub TuneGives : List ℕ → List ℕ → ShelfState → ReportAndTape → Type 0
 TuneGives deck tape before given = (given.differs ≡ false) × HasDeck deck before (λ d. HasShortPrograms d × HasBytes tape before (IsTuned d given))
 

@@ -1,5 +1,5 @@
--- The forms of the words of a command: which of them the words are, if they are one. A name is the list of its bytes; a
--- file's name is any word that isn't empty. A seed, a size and a port are spelled as numbers are.
+-- The forms of the words of a command: which of them the words are, if they are one. A name is the list of its bytes. A file's name is any word that
+-- isn't empty. A seed, a size and a port are spelled like numbers.
 use Rattle.std.specs.Prelude.{ℕ, ◌≤◌, ◌||◌, ◌&&◌, ◌==◌, nat_le, if◌then◌else◌, List, [], ◌∷◌, length, Option, Some, None, codes, nat_eq, ⊤}
 use Rattle.std.specs.Option.{option_map}
 use Rattle.std.specs.Cmp.Lexicographic.{pointwise}
@@ -7,9 +7,8 @@ use Rattle.air_base.specs.Numbers.{number_of}
 use Rattle.air_cli.specs.declared.words.ports.TheConstants.{LAST_PORT}
 use Rattle.item_catalog.specs.declared.deck.drill.TheConstants.{MOST_DRILL_SIZE}
 
--- What is asked for: to plan a deck; to find its best split; to run a deck's script, and to write its tape where one is named; to let a deck's
--- readers hear a tape; to run the drill of a seed and a size; to audit a report by a deck; to run a deck on threads, and to
--- write its tape; to cast such a run to a port; to let a deck's readers listen on a port.
+-- A request, one for each command, with what its words name: the deck first, then a tape, a report or a port. A drill has a seed and a size.
+-- `AsksScript` has a tape if the tape is to be written.
 pub data Request : Type 0 where
   AsksPlan : List ℕ → Request
   AsksSplit : List ℕ → Request
@@ -21,17 +20,17 @@ pub data Request : Type 0 where
   AsksCast : List ℕ → ℕ → Request
   AsksListen : List ℕ → ℕ → Request
 
--- The size of a drill that is asked for is one that a drill may have.
+-- If a drill is requested, a drill may have its size.
 abbrev pub HasSize : Request → Type 0
 HasSize (AsksDrill seed size) = (1 ≤ size) × (size ≤ MOST_DRILL_SIZE)
 HasSize other = ⊤
 
--- A seed and a size ask for a drill where they are numbers, and the size is one that a drill may have.
+-- A seed and a size ask for a drill if they are numbers, and a drill may have the size.
 abbrev pub asked_drill : Option ℕ → Option ℕ → Option Request
 asked_drill (Some seed) (Some size) = if nat_le 1 size && nat_le size MOST_DRILL_SIZE then Some (AsksDrill seed size) else None
 asked_drill seed size = None
 
--- The port of a number, where it is one: from 1 to 65,535.
+-- The port of a number, if it is one: from 1 to 65,535.
 abbrev pub port_of : Option ℕ → Option ℕ
 port_of (Some n) = if nat_le 1 n && nat_le n LAST_PORT then Some n else None
 port_of None = None
@@ -44,7 +43,7 @@ asked_of_one name deck =
     else if pointwise nat_eq name (codes "script") then Some (AsksScript deck None)
     else None
 
--- What a command's name and two words more ask for where the last of them is a number.
+-- What a command's name and two more words ask for, if the last of them is a number.
 abbrev pub asked_of_numbers : List ℕ → List ℕ → List ℕ → Option Request
 asked_of_numbers name first second =
     if pointwise nat_eq name (codes "drill") then asked_drill (number_of first) (number_of second)
@@ -52,7 +51,7 @@ asked_of_numbers name first second =
     else if pointwise nat_eq name (codes "listen") then option_map (AsksListen first) (port_of (number_of second))
     else None
 
--- What a command's name and two words more ask for.
+-- What a command's name and two more words ask for.
 abbrev pub asked_of_two : List ℕ → List ℕ → List ℕ → Option Request
 asked_of_two name first second =
     if pointwise nat_eq name (codes "script") then Some (AsksScript first (Some second))
@@ -61,7 +60,7 @@ asked_of_two name first second =
     else if pointwise nat_eq name (codes "run") then Some (AsksRun first second)
     else asked_of_numbers name first second
 
--- What the words ask for; None where they are no command.
+-- What the words ask for; `None` if they are no command.
 abbrev pub asked_of : List (List ℕ) → Option Request
 asked_of [] = None
 asked_of (name ∷ []) = None

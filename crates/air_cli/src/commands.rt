@@ -1,4 +1,4 @@
-//! The commands: a file each, which gives what the command prints and writes, or the status that refuses it.
+//! The commands, a file for each. A command makes what it prints and writes, or gives the status that refuses it.
 
 pub(crate) mod audit;
 pub(crate) mod cast;

@@ -1,4 +1,4 @@
-//! How a command ends: what it made is delivered, or why it made nothing is told.
+//! How a command ends: its text and its tape are delivered, or the line of its refusal is printed.
 
 ghost use Rattle.std.specs.Prelude.{option_map, MatchResult};
 ghost use Rattle.air_cli.specs.Private.Endings.{EndsGiven, EndsUnmade};
@@ -10,7 +10,7 @@ use air_devices::Shelf;
 use air_report::Status;
 use std::alloc::Global;
 
-/// Delivers what a command made, its tape to the output of this name, if one is named; or refuses. Out of memory nothing more is done.
+/// Delivers what a command made, with its tape to the output of this name, if one is named; or refuses. Out of memory it does nothing more.
 pub(crate) fn give_or_refuse<S: Shelf>(
     alloc: Global,
     shelf: &mut S,

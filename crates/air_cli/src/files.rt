@@ -1,4 +1,4 @@
-//! Named files, read whole or refused with the status that says why.
+//! Named files, read whole or refused with the status of the reason.
 
 ghost use Rattle.std.specs.Prelude.{◌≤◌, length, IfErr, IfOk};
 ghost use Rattle.air_devices.specs.WhatIsTold.{ToldIs};
@@ -12,7 +12,7 @@ use air_devices::{ReadFileError, Shelf, read_file};
 use air_report::Status;
 use std::alloc::Global;
 
-/// The whole of a named file that has at most `limit` bytes.
+/// All bytes of a named file that has at most `limit` bytes.
 #[tactic(auto, unfolding(crate::specs::NamedFiles::UnreadCause))]
 pub fn read_bytes<S: Shelf>(
     alloc: Global,

@@ -14,9 +14,9 @@ ghost use Rattle.air_cli.specs.Words.{asked_of};
 ghost use Rattle.air_cli.specs.ToldInputs.{IsDecided, TellSameInputs};
 ghost use Rattle.air_cli.specs.Answers.{IsSuccess, QuietAnswers};
 
-/// Two calls of a command that its inputs decide, on the same words and over shelves that tell the same inputs, print one
-/// text and write one tape where both succeed, and end with one status: calls of `air_main`, over any masts and ears, and calls of
-/// `air_quiet`, of whose commands each is such a one.
+/// A command that its inputs decide has one output. Two successful calls of it, with the same words and over shelves that tell the same inputs, print
+/// the same text, write the same tape and end with the same status. This holds of calls of `air_main`, over any masts and ears, and of calls of
+/// `air_quiet`, whose commands are all of this kind.
 pub fn one_output_law()
     ensures words { (words : List (List ℕ)) (mast mast_now other_mast other_mast_now : MastState) (ear ear_now other_ear other_ear_now : EarState) (before now other_before other_now : ShelfState) (s other : Status) →
         IsDecided (asked_of words) →

@@ -1,7 +1,7 @@
 //! The commands of airdisk: from words to a status, over any shelf.
 //!
-//! `air_main` is the top call; `air_quiet` is that of the commands that need no waiting. `commands` has a file for each of them,
-//! `files` what they read, `tapes` the readers' hearing of a tape that is read piece by piece, `outputs` what they leave outside.
+//! `air_main` is the top call; `air_quiet` is that of the commands that need no waiting. `commands` has a file for each of them, `files` what they
+//! read, `tapes` the readers' hearing of a tape that is read piece by piece, `outputs` what they print and write.
 #![tactic(auto)]
 
 mod commands;

@@ -1,7 +1,7 @@
 //! The top call for all commands.
 //!
-//! `run`, `cast` and `listen` are done here; whatever else the words are, they are left to `air_quiet`. What these three print and write
-//! is made, or why they are refused is known, before anything is printed or written.
+//! `run`, `cast` and `listen` are run here; all other words are left to `air_quiet`. These three make all that they print and write, or find why they
+//! are refused, before anything is printed or written.
 
 ghost use Rattle.std.specs.Prelude.{◌≡◌, map, string_bytes, None, Some};
 ghost use Rattle.air_devices.specs.Masts.{nothing_sent};
@@ -26,9 +26,8 @@ use std::alloc::Global;
 use std::sync::Wait;
 use std::thread::Threads;
 
-/// Runs what the words ask for: `run DECK TAPE`, `cast DECK PORT`, `listen DECK PORT`, or what `air_quiet` does. The mast and the ear
-/// are to be as they are when made; `cast` alone uses the mast, and `listen` alone the ear. Where the call succeeded, `headline` says on one
-/// page what stands.
+/// Runs what the words ask for: `run DECK TAPE`, `cast DECK PORT`, `listen DECK PORT`, or what `air_quiet` runs. The mast and the ear must be new;
+/// only `cast` uses the mast, and only `listen` the ear. If the call succeeded, the clause `headline` says on one page what holds.
 pub fn air_main<R: Threads + Wait + Sync, S: Shelf, M: Mast + Send, E: Ear, G: Gate + Sync>(
     rt: &R,
     alloc: Global,
@@ -56,7 +55,7 @@ pub fn air_main<R: Threads + Wait + Sync, S: Shelf, M: Mast + Send, E: Ear, G: G
     }
 }
 
-/// Runs a deck on threads, and delivers what that gives; or refuses.
+/// Runs a deck on threads and delivers its report and its tape; or refuses.
 fn run_deck<R: Threads + Wait + Sync, S: Shelf, G: Gate + Sync>(
     rt: &R,
     alloc: Global,
@@ -72,7 +71,7 @@ fn run_deck<R: Threads + Wait + Sync, S: Shelf, G: Gate + Sync>(
     give_or_refuse(alloc, shelf, Some(tape), made)
 }
 
-/// Casts a run of a deck to a port, and delivers what that gives; or refuses.
+/// Casts a run of a deck to a port and delivers its report; or refuses.
 fn cast_deck<R: Threads + Wait + Sync, S: Shelf, M: Mast + Send, G: Gate + Sync>(
     rt: &R,
     alloc: Global,
@@ -92,7 +91,7 @@ fn cast_deck<R: Threads + Wait + Sync, S: Shelf, M: Mast + Send, G: Gate + Sync>
     give_or_refuse(alloc, shelf, None, made)
 }
 
-/// Lets a deck's readers listen on a port, and delivers what that gives; or refuses.
+/// Lets a deck's readers listen on a port and delivers their report; or refuses.
 fn listen_deck<S: Shelf, E: Ear>(
     alloc: Global,
     shelf: &mut S,

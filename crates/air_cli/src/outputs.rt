@@ -1,9 +1,9 @@
-//! What a command gives, written to its output and printed.
+//! What a command made, written to its output and printed.
 
 ghost use Rattle.std.specs.Prelude.{OnErr, OnOk, option_map};
 ghost use Rattle.air_devices.specs.Counts.{NoCountFalls};
 ghost use Rattle.air_cli.specs.Deliveries.{Delivers, KeepsButDelivered};
-ghost use Rattle.air_cli.specs.OutputPieces.{IsCutOff, IsWritten};
+ghost use Rattle.air_cli.specs.Private.OutputPieces.{IsCutOff, IsWritten};
 
 pub(crate) mod pieces;
 pub(crate) mod refusals;
@@ -14,8 +14,8 @@ use crate::outputs::report_and_tape::ReportAndTape;
 use air_devices::{Failed, Shelf};
 use air_report::Status;
 
-/// Writes the tape to the output of this name, if one is named, and then prints the text. Where both went out, the status tells
-/// whether the text says that something differs.
+/// Writes the tape to the output of this name, if one is named, and then prints the text. If both succeed, the status says whether the text says that
+/// something differs.
 pub fn deliver<S: Shelf>(shelf: &mut S, output: Option<&str>, given: &ReportAndTape) -> Status
     ensures gives { Delivers (option_map (λ name. name.now) output.entry) given.now (S.state shelf.old) (S.state shelf.new) result }
     ensures rest { KeepsButDelivered (option_map (λ name. name.now) output.entry) (S.state shelf.old).told (S.state shelf.new).told }

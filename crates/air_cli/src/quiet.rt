@@ -1,7 +1,7 @@
 //! The top call for the commands that need no waiting.
 //!
-//! Whatever a command prints and writes is made before anything is printed or written, but that `script` writes its tape while it
-//! airs it. The contract is one definition by cases of the status: its cause, what was printed and written, and what is left.
+//! All that a command prints and writes is made before anything is printed or written, except that `script` writes its tape while it airs it. The
+//! contract is one definition by cases of the status: its cause, what was printed and written, and what is left.
 
 ghost use Rattle.std.specs.Prelude.{◌≤◌, map, string_bytes, Some};
 ghost use Rattle.air_cli.specs.Answers.{Completes, IsSuccess, Leaves, QuietAnswers};
@@ -49,7 +49,7 @@ pub fn air_quiet<T: Threads + Sync, S: Shelf>(
     }
 }
 
-/// Runs a command. One that waits is none of these, and is refused as words that are no command are.
+/// Runs a command. A command that waits isn't run here: it is refused like words that are no command.
 fn run<T: Threads + Sync, S: Shelf>(
     threads: &T,
     alloc: Global,
@@ -81,7 +81,7 @@ fn refuse_words<S: Shelf>(alloc: Global, shelf: &mut S) -> Status
     refuse(alloc, shelf, Status::Words)
 }
 
-/// Plans a deck, and delivers what that gives; or refuses.
+/// Plans a deck and delivers the plan; or refuses.
 fn give_plan<S: Shelf>(alloc: Global, shelf: &mut S, deck: &str) -> Status
     ensures answers { QuietAnswers (plan_meaning deck.now) (S.state shelf.old) (S.state shelf.new) result }
     ensures leaves { Leaves (plan_meaning deck.now) (S.state shelf.old) (S.state shelf.new) }
@@ -90,7 +90,7 @@ fn give_plan<S: Shelf>(alloc: Global, shelf: &mut S, deck: &str) -> Status
     give_or_refuse(alloc, shelf, None, made)
 }
 
-/// Finds the best split of a deck, and delivers what that gives; or refuses.
+/// Finds the best split of a deck and delivers it; or refuses.
 fn give_split<S: Shelf>(alloc: Global, shelf: &mut S, deck: &str) -> Status
     ensures answers { QuietAnswers (split_meaning deck.now) (S.state shelf.old) (S.state shelf.new) result }
     ensures leaves { Leaves (split_meaning deck.now) (S.state shelf.old) (S.state shelf.new) }
@@ -99,7 +99,7 @@ fn give_split<S: Shelf>(alloc: Global, shelf: &mut S, deck: &str) -> Status
     give_or_refuse(alloc, shelf, None, made)
 }
 
-/// Lets a deck's readers hear a tape, and delivers what that gives; or refuses.
+/// Lets a deck's readers hear a tape and delivers their report; or refuses.
 fn give_tuning<T: Threads + Sync, S: Shelf>(
     threads: &T,
     alloc: Global,
@@ -114,7 +114,7 @@ fn give_tuning<T: Threads + Sync, S: Shelf>(
     give_or_refuse(alloc, shelf, None, made)
 }
 
-/// Runs the drill of a seed and a size, and delivers what that gives; or refuses.
+/// Runs the drill of a seed and a size and delivers its line; or refuses.
 fn give_drill<T: Threads + Sync, S: Shelf>(
     threads: &T,
     alloc: Global,
@@ -131,7 +131,7 @@ fn give_drill<T: Threads + Sync, S: Shelf>(
     give_or_refuse(alloc, shelf, None, made)
 }
 
-/// Audits a report by a deck, and delivers what that gives; or refuses.
+/// Audits a report by a deck and delivers the findings; or refuses.
 fn give_audit<S: Shelf>(alloc: Global, shelf: &mut S, deck: &str, report: &str) -> Status
     ensures answers { QuietAnswers (audit_meaning deck.now report.now) (S.state shelf.old) (S.state shelf.new) result }
     ensures leaves { Leaves (audit_meaning deck.now report.now) (S.state shelf.old) (S.state shelf.new) }

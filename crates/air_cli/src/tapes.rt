@@ -1,4 +1,4 @@
-//! A named tape that is read by pieces to its end, and the sessions of a deck's readers over it.
+//! A named tape that is read in pieces to its end, and the sessions of a deck's readers over it.
 
 ghost use Rattle.std.specs.Prelude.{◌≡◌, ◌≤◌, [], All, IfErr, IfOk, MatchResult, OnOk, length};
 ghost use Rattle.air_base.specs.declared.limits.TheConstants.{MOST_TAPE_BYTES};
@@ -20,10 +20,10 @@ use listeners::{Sessions, Together};
 use std::alloc::Global;
 use std::thread::Threads;
 
-/// How many bytes of a tape are read before they are heard, at most, where no record is longer.
+/// The greatest number of bytes of a tape that are read before they are heard, if no record is longer.
 const READ_PIECE_BYTES: usize = 4_194_304;
 
-/// How many bytes a tape may have, and for how many the buffer of a piece has room at first.
+/// The greatest number of bytes of a tape, and the number of bytes that the buffer of a piece has room for at first.
 #[derive(Clone, Copy, Debug, PartialEq, Eq)]
 pub struct PieceSizes {
     pub tape: usize,
@@ -49,7 +49,7 @@ pub fn file_sessions<T: Threads + Sync, S: Shelf>(
     piece_sessions(threads, alloc, shelf, name, planned, sizes)
 }
 
-/// The same, where the tape is read by pieces of the given sizes.
+/// The same, with pieces of the given sizes.
 #[tactic(auto, unfolding(crate::specs::HeardTapes::UnheardCause, crate::specs::NamedFiles::UnreadCause))]
 pub fn piece_sessions<T: Threads + Sync, S: Shelf>(
     threads: &T,
@@ -107,7 +107,7 @@ fn hear_pieces<T: Threads + Sync, S: Shelf>(
     }
 }
 
-/// Whether a tape of so many bytes is whole, all of which were heard but these last ones: else it is cut where they begin.
+/// Whether a tape of `len` bytes, of which all but `rest` were heard, is whole; if not, it is cut where the rest begins.
 fn whole_or_cut(rest: &[u8], len: usize) -> Result<(), Status>
     requires { length rest.now ≤ len }
     ensures { MatchResult result (λ done. rest.now ≡ []) (IsCutBefore rest.now len) }

@@ -1,4 +1,4 @@
-//! What is true of the sessions that are printed, by the laws of the model. The calls do nothing.
+//! What is true of the sessions that are printed, by the laws of the model. These calls do nothing.
 
 ghost use Rattle.std.specs.Prelude.{ℕ, ◌≤◌, List};
 ghost use Rattle.air_model.specs.Drills.{drill_deck};
@@ -30,7 +30,7 @@ pub(crate) fn shows_script_truth(planned: &Planned)
     receiver_law();
 }
 
-/// So are those of a drill.
+/// The sessions of a drill are true of its history.
 pub(crate) fn shows_drill_truth(seed: u64, size: u32)
     requires some { 1 ≤ size }
     requires few { size ≤ MOST_DRILL_SIZE }
@@ -53,7 +53,7 @@ pub(crate) fn shows_tape_truth(planned: &Planned)
     receiver_law();
 }
 
-/// So are the runs of a deck, and a cast's report tells the history of its run.
+/// The runs of a deck are true, and a cast's report determines the history of its run.
 pub(crate) fn shows_run_truth(planned: &Planned)
     ensures { (run : Run) → IsRun planned.now run → IsTrueRun planned.now run × TellsHistory planned.now run.history (cast_output run.history run.glances run.looks) }
 {

@@ -10,7 +10,7 @@ use crate::words::ports::port_of;
 use air_base::read_u64;
 use item_catalog::MOST_DRILL_SIZE;
 
-/// What the program can do, a line a command.
+/// What the program can do: a line for each command.
 pub const HELP: &str = "airdisk: data on air, proved
 
   airdisk plan DECK           print the broadcast program of a deck
@@ -33,7 +33,7 @@ pub const HELP: &str = "airdisk: data on air, proved
 The manual is docs/GUIDE.md in the repository.
 ";
 
-/// What the words ask for: each of their forms is one of these.
+/// A command, with what the words after it name.
 #[derive(Clone, Copy, Debug)]
 pub enum Command<'a> {
     /// To plan a deck.
@@ -44,7 +44,7 @@ pub enum Command<'a> {
     Split {
         deck: &'a str,
     },
-    /// To run a deck's script, and to write its tape where one is named.
+    /// To run a deck's script, and to write its tape if one is named.
     Script {
         deck: &'a str,
         tape: Option<&'a str>,
@@ -81,7 +81,7 @@ pub enum Command<'a> {
     },
 }
 
-/// What the words ask for, and `None` exactly if they are no command.
+/// The command that the words ask for, or `None` if they are no command.
 pub fn command_of<'a>(words: &'a [String]) -> Option<Command<'a>>
     ensures asked { option_map asked_by result ≡ asked_of (map (λ w. string_bytes w) words.now) }
     ensures sized { IfSome result (λ c. HasSize (asked_by c)) }
@@ -111,7 +111,7 @@ fn command_of_one<'a>(name: &str, deck: &'a str) -> Option<Command<'a>>
     }
 }
 
-/// What a command's name and two words more ask for.
+/// What a command's name and two more words ask for.
 fn command_of_two<'a>(name: &str, first: &'a str, second: &'a str) -> Option<Command<'a>>
     ensures asked { option_map asked_by result ≡ asked_of_two name.now first.now second.now }
     ensures sized { IfSome result (λ c. HasSize (asked_by c)) }
@@ -141,7 +141,7 @@ fn command_of_two<'a>(name: &str, first: &'a str, second: &'a str) -> Option<Com
     }
 }
 
-/// What a command's name and two words more ask for where the last of them is a number.
+/// What a command's name and two more words ask for, if the last of them is a number.
 fn command_of_numbers<'a>(name: &str, first: &'a str, second: &str) -> Option<Command<'a>>
     ensures asked { option_map asked_by result ≡ asked_of_numbers name.now first.now second.now }
     ensures sized { IfSome result (λ c. HasSize (asked_by c)) }
@@ -163,7 +163,7 @@ fn command_of_numbers<'a>(name: &str, first: &'a str, second: &str) -> Option<Co
     }
 }
 
-/// The drill of a seed and a size, where they are numbers and the size is one that a drill may have.
+/// The drill of a seed and a size, if they are numbers and a drill may have the size.
 fn drill_of<'a>(seed: Option<u64>, size: Option<u64>) -> Option<Command<'a>>
     ensures asked { option_map asked_by result ≡ asked_drill seed size }
     ensures sized { IfSome result (λ c. HasSize (asked_by c)) }

@@ -1,5 +1,4 @@
--- What a call of a shelf in memory leaves, said once for all calls: the shelf s makes a call, and t is the shelf at its
--- end.
+-- What a call of a shelf in memory leaves, stated once for all calls: the shelf s makes a call, and t is the shelf after it.
 use Rattle.std.proofs.Common.{◌≡◌, ◌≢◌, ◌∙◌, ◌-◌, ◌++◌, ℕ, List, Option, Some, false, length, take, refl, sym, ap, subst}
 use Rattle.std.specs.Prelude.{IfSome}
 use Rattle.air_devices.specs.Calls.{IsNextCall, is_next_listed, next_call}
@@ -25,7 +24,7 @@ is_failed_call before mid now numbered counted = record {
   fail = ap (λ (c : Calls). c.fail) counted ∙ ap (λ (c : Calls). c.fail) numbered;
 }
 
--- The files are now these, of which one name alone was read on.
+-- The files are now these, and only the file of one name was read further.
 pub keeps_but_left : (s : MemShelf) (files : List MemFile) (n : List ℕ)
     → ((m : List ℕ) → file_bytes (file_named m files) ≡ file_bytes (file_named m s.files.items))
     → ((m : List ℕ) → m ≢ n → left_bytes (file_named m files) ≡ left_bytes (file_named m s.files.items))
@@ -37,7 +36,7 @@ keeps_but_left s files n bytes others = record {
   printed = refl;
 }
 
--- The outputs are now these, of which one name alone was written.
+-- The outputs are now these, and only the output of one name was written.
 pub keeps_but_output : (s : MemShelf) (outputs : List MemOutput) (n : List ℕ)
     → ((m : List ℕ) → m ≢ n → output_bytes (output_named m outputs) ≡ output_bytes (output_named m s.outputs.items))
     → KeepsButOutput n (told_by s) (contents_with s.files.items outputs s.printed.bytes)
@@ -48,7 +47,7 @@ keeps_but_output s outputs n others = record {
   printed = refl;
 }
 
--- What an output holds once a call added to it what fits.
+-- What an output holds after a call added what fits to it.
 pub output_added : (before : Option MemOutput) (d : MemOutput) (now : Option (List ℕ)) (calls : Calls) (bytes : List ℕ) → before ≡ Some d → is_next_listed calls ≡ false
     → now ≡ Some (d.written.bytes ++ take (d.written.room - length d.written.bytes) bytes)
     → IfSome before (λ o. now ≡ Some (o.written.bytes ++ added_bytes calls o.written bytes))

@@ -5,11 +5,11 @@ use Rattle.air_devices.specs.Contents.{Contents, nothing_told}
 use Rattle.air_devices.specs.Counts.{Faults, KeepsCounts, NoCountFalls, Rose, one_count}
 use Rattle.air_devices.specs.Masts.{Changes, SentBuckets, fresh_mast, nothing_sent, with_buckets, with_end}
 use Rattle.air_devices.specs.Reading.{IsTooLarge}
-use Rattle.air_devices.specs.WhatIsTold.{AppendsPart, Becomes, ToldIs, WhereTold}
+use Rattle.air_devices.specs.WhatIsTold.{AppendsBeginning, Becomes, ToldIs, WhereTold}
 
 -- ---- counts
 
--- A count rises by one or more, or stands at its last value.
+-- A count went up by one or more, or stays at its last value.
 rose : Rose 3 4 × Rose 3 7 × Rose (2 ^ 64 - 1) (2 ^ 64 - 1)
 rose = (inl (omega arith), inl (omega arith), inr (refl, refl))
 
@@ -28,7 +28,7 @@ not_rose = (same, fell, below_last)
     below_last (inl less) = omega arith
     below_last (inr (last, stays)) = omega (arith, last)
 
--- Counts of which that of prints is another.
+-- Counts of which only that of prints differs.
 abbrev printed_once : Faults
 printed_once = record (one_count 3) { printing = 4 }
 
@@ -64,22 +64,22 @@ not_where_told h = omega arith
 becomes : Becomes (Some (codes "ab")) (Some (codes "c")) (codes "c") × Becomes None None (codes "c")
 becomes = (refl, tt)
 
--- What was told is told again, and is these bytes alone.
+-- What was told is told again, and is only these bytes.
 not_becomes : (Becomes (Some (codes "ab")) None (codes "c") → ⊥) × (Becomes (Some (codes "ab")) (Some (codes "abc")) (codes "c") → ⊥)
 not_becomes = (λ h. cc, λ h. let same : codes "abc" ≡ codes "c" = cc in let n : 3 ≡ 1 = ap length same in omega (arith, same))
 
--- The first bytes of a text behind what was there.
-appends_part : AppendsPart (Some (codes "a")) (Some (codes "abc")) (codes "bcd")
+-- The first bytes of a text, after what was there.
+appends_part : AppendsBeginning (Some (codes "a")) (Some (codes "abc")) (codes "bcd")
 appends_part = (2, refl)
 
--- A file of four bytes is too large where three are the most, and is read up to the last.
+-- A file of five bytes is too large if three are the most, and is read up to its last byte.
 abbrev with_file : List ℕ → List ℕ → Contents
 with_file bytes left = record nothing_told { file = λ _. Some bytes; left = λ _. Some left }
 
 too_large : IsTooLarge 3 (codes "deck") (with_file (codes "abcde") (codes "abcde")) (with_file (codes "abcde") (codes "e"))
 too_large = (omega arith, refl)
 
--- One of just so many isn't, and it is read to one byte behind the most and no further.
+-- A file of exactly the most bytes isn't too large; a file that is too large is read one byte past the most and no further.
 not_too_large : (IsTooLarge 3 (codes "deck") (with_file (codes "abc") (codes "abc")) (with_file (codes "abc") []) → ⊥)
     × (IsTooLarge 3 (codes "deck") (with_file (codes "abcde") (codes "abcde")) (with_file (codes "abcde") []) → ⊥)
 not_too_large = (λ h. let more : 3 < 3 = h.0 in omega arith, λ h. let same : Some [] ≡ Some (codes "e") = h.1 in cc)

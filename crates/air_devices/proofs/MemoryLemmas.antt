@@ -1,4 +1,4 @@
--- One file of a shelf in memory is read up to another place, or one output is written: what the shelf tells then.
+-- One file of a shelf in memory is read up to another place, or one output is written: what the shelf then tells.
 use Rattle.std.proofs.Common.{◌≤◌, ◌↔◌, Bool, IsTrue, ◌≡◌, ◌≢◌, ◌<◌, ◌+◌, ◌-◌, ◌++◌, ◌∙◌, inl, inr, ℕ, List, [], Option, Some, None, true, false, drop, take, take-append-drop, get_or, length, map, min, set, string_bytes, position, sym, ap, arith, refl, String, Vec, vec_len}
 use Rattle.std.proofs.lemmas.List.{drop-drop, drop_all}
 use Rattle.std.specs.List.{find}
@@ -14,7 +14,7 @@ use Rattle.air_devices.specs.declared.memory.shelf.MemFile.{MemFile}
 use Rattle.air_devices.specs.declared.memory.shelf.MemOutput.{MemOutput}
 use Rattle.air_devices.proofs.NamedLemmas.{asked_kept, found, found_image, found_nowhere, found_written, value_kept}
 
--- A text spells one name.
+-- A text spells only one name.
 other_name : (text : String Global) (m n : List ℕ) → m ≢ n → spells n text ≡ true → spells m text ≡ false
 other_name text m n other named =
     elim (cases_Bool (spells m text)) [
@@ -58,21 +58,21 @@ nothing_left files n none = ap left_bytes (found_nowhere (λ (f : MemFile). spel
 pub file_absent : (files : List MemFile) (n : List ℕ) → position (λ f. spells n f.name) files ≡ None → is_none (file_named n files) ≡ true
 file_absent files n none = ap is_none (found_nowhere (λ (f : MemFile). spells n f.name) files none)
 
--- What a read of k bytes from the front of what is left takes, and when that is nothing.
-pub record FrontTaken (before after : List ℕ) (k : ℕ) (buf : List ℕ) : Type 0 where
+-- What a read of k bytes from the beginning of what is left takes, and when that is nothing.
+pub record BeginningTaken (before after : List ℕ) (k : ℕ) (buf : List ℕ) : Type 0 where
   pub bytes : before ≡ take k buf ++ after
   pub end : k ≡ 0 → 0 < length buf → after ≡ []
 
-pub front_taken : (files after : List MemFile) (d : MemFile) (k : ℕ) (n buf : List ℕ) → FileMoved files after d (d.at + k) n
+pub beginning_taken : (files after : List MemFile) (d : MemFile) (k : ℕ) (n buf : List ℕ) → FileMoved files after d (d.at + k) n
     → k ≡ min (length d.bytes.items - d.at) (length buf) → take k buf ≡ take k (drop d.at d.bytes.items)
-    → FrontTaken (left_bytes (file_named n files)) (left_bytes (file_named n after)) k buf
-front_taken files after d k n buf moved count front =
+    → BeginningTaken (left_bytes (file_named n files)) (left_bytes (file_named n after)) k buf
+beginning_taken files after d k n buf moved count beginning =
     rw (moved.was, moved.now) (record {
-      bytes = sym (take-append-drop k (drop d.at d.bytes.items)) ∙ ap (λ l. take k (drop d.at d.bytes.items) ++ l) (drop-drop k d.at d.bytes.items) ∙ ap (λ l. l ++ drop (d.at + k) d.bytes.items) (sym front);
+      bytes = sym (take-append-drop k (drop d.at d.bytes.items)) ∙ ap (λ l. take k (drop d.at d.bytes.items) ++ l) (drop-drop k d.at d.bytes.items) ∙ ap (λ l. l ++ drop (d.at + k) d.bytes.items) (sym beginning);
       end = λ none room. drop_all (d.at + k) d.bytes.items (omega arith);
     })
 
--- What did not all fit is past the room.
+-- If not all fit, the bytes are past the room.
 pub past_room : (whole : Bool) (before : WrittenBytes) (bytes : List ℕ) → whole ≡ false → IsTrue whole ↔ (length before.bytes + length bytes ≤ before.room) → overflows before bytes ≡ true
 past_room whole before bytes cut told =
     elim (cases_Bool (overflows before bytes)) [

@@ -1,4 +1,4 @@
--- Items that are found by a test, and one of them is written: what is found then. No shelf is spoken of here.
+-- Items that are found by a test: what is found after one of them is written. Nothing here concerns shelves.
 use Rattle.std.proofs.Common.{◌≡◌, ◌≤◌, ◌∙◌, ℕ, zero, suc, List, [], ◌∷◌, Option, Some, None, Bool, true, false, cond, ◌||◌, IsTrue, rules, length, get_or, set, position, refl, sym, ap, arith, map}
 use Rattle.std.proofs.lemmas.List.Folds.{find_at, find-set}
 use Rattle.std.proofs.lemmas.List.Quantifiers.{position-Some}
@@ -16,7 +16,7 @@ found p xs i d place here =
     let at = position-Some p xs i d place in
     find_at p xs ∙ ap (λ k. slice_get xs k) (sym (place_is p xs i place)) ∙ slice_get-get_or xs i d at.0 ∙ ap (λ x. Some x) (sym here)
 
--- Nothing is found where no place passes.
+-- If no place passes, nothing is found.
 pub found_nowhere : {X : Type 0} (p : X → Bool) (xs : List X) → position p xs ≡ None → find p xs ≡ None
 found_nowhere p xs none =
     let past : length xs ≤ position_or_len p xs = grind arith in
@@ -27,7 +27,7 @@ pub found_written : {X : Type 0} (p : X → Bool) (xs : List X) (i : ℕ) (d g :
 found_written p xs i d g place same =
     let at = position-Some p xs i d place in find-set p xs i g (place_is p xs i place) at.0 same
 
--- A write that leaves the test and the value of an item leaves the value of what is found.
+-- A write that leaves an item's test and value unchanged leaves the value of what is found unchanged.
 pub value_kept : {X V : Type 0} (p : X → Bool) (value : Option X → V) (xs : List X) (i : ℕ) (d g : X)
     → p g ≡ p (get_or xs i d) → value (Some g) ≡ value (Some (get_or xs i d)) → value (find p (set xs i g)) ≡ value (find p xs)
 value_kept p value [] i d g same kept = refl
@@ -51,7 +51,7 @@ found_image f p (x ∷ xs) = by (p (f x)) (found_image f p xs)
     by true more = refl
     by false more = more
 
--- A write that leaves what is asked of an item leaves what is asked of all.
+-- A write that leaves a function of an item unchanged leaves it unchanged for all items.
 pub asked_kept : {X Y : Type 0} (ask : X → Y) (xs : List X) (i : ℕ) (d g : X) → ask g ≡ ask (get_or xs i d) → map ask (set xs i g) ≡ map ask xs
 asked_kept ask [] i d g kept = refl
 asked_kept ask (x ∷ xs) zero d g kept = ap (λ y. y ∷ map ask xs) kept

@@ -1,5 +1,5 @@
--- One more record behind a tape: what the tape is read as, how long it is, and what the fields then hold.
--- `tape_more`, `tape_room` and `recording_is` are what a room of fixed size needs.
+-- One more record at the end of a tape: what the tape is read as, how long it is, and what the fields then hold. A room of
+-- fixed size needs `tape_more`, `tape_room` and `recording_is`.
 use Rattle.std.proofs.Common.{◌≡◌, ◌≤◌, ◌<◌, ◌+◌, ◌*◌, ◌^◌, ◌++◌, ◌∙◌, ℕ, List, [], ◌∷◌, length, sym, ap, arith, append_assoc, length-append, vec_capacity}
 use Rattle.std.proofs.lemmas.List.{append-nil}
 use Rattle.std.proofs.lemmas.List.Elements.{All-append, All-cons, All-nil}
@@ -14,7 +14,7 @@ use Rattle.air_devices.specs.declared.rooms.tape_room.TapeRoom.TheInside.{Inside
 pub read_whole : (tape : List ℕ) (rs : List (List ℕ)) → IsTape tape rs → (tape_read tape).records ≡ rs
 read_whole tape rs is = ap (λ t. (tape_read t).records) is.1 ∙ ap (λ read. read.records) (whole_read rs (length (tape_of rs)) 0 is.0 (omega arith))
 
--- Each record takes four bytes at least.
+-- Each record takes at least four bytes.
 pub many_bytes : (rs : List (List ℕ)) → 4 * length rs ≤ length (tape_of rs)
 unfolding tape_of
 many_bytes [] = omega arith
@@ -34,7 +34,7 @@ tape_more tape after rs r is short e = (
   e ∙ ap (λ l. l ++ record_bytes r) is.1 ∙ sym (tape_push rs r),
 )
 
--- The four bytes of the length and then the record were put behind the tape.
+-- The four bytes of the length and then the record were put at the end of the tape.
 pub record_put : (tape first after frame r : List ℕ) → frame ≡ bytes_high_first 4 (length r) → first ≡ tape ++ frame → after ≡ first ++ r → after ≡ tape ++ record_bytes r
 unfolding record_bytes
 record_put tape first after frame r framed one two = two ∙ ap (λ l. l ++ r) (one ∙ ap (λ l. tape ++ l) framed) ∙ append_assoc tape (bytes_high_first 4 (length r)) r

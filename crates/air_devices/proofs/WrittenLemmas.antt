@@ -1,4 +1,4 @@
--- A piece that is written behind the first bytes of a buffer: `piece_added` is what a room of fixed size needs.
+-- A piece that is written after the first bytes of a buffer. A room of fixed size needs `piece_added`.
 use Rattle.std.proofs.Common.{◌≡◌, ◌≤◌, ◌+◌, ◌-◌, ◌++◌, ◌∙◌, ℕ, List, length, take, min, refl, sym, ap, arith, length-append, length-take, length-drop, vec_len}
 use Rattle.std.proofs.lemmas.List.{length-take-le, take_min, with_items_is}
 use Rattle.std.proofs.lemmas.Slice.{take-put_mid}
@@ -8,7 +8,7 @@ use Rattle.std.specs.Prelude.{Vec}
 use Rattle.air_devices.specs.WrittenBytes.{WrittenBytes}
 use borrow.Rule.Slice.PartMut.{put_mid}
 
--- A piece in the middle of a list leaves its length.
+-- A piece put into the middle of a list doesn't change its length.
 length_kept : (xs ys : List ℕ) (a k : ℕ) → length ys ≡ k → a + k ≤ length xs → length (put_mid a k xs ys) ≡ length xs
 length_kept xs ys a k piece fits = simp (length-append, length-take, length-drop) (omega arith)
 
@@ -21,7 +21,7 @@ piece_held buffer xs ys bytes len count k same whole below counted width piece =
     let held : length xs ≡ length buffer.items = ap length same in
     with_items_is buffer (put_mid len k xs ys) (length_kept xs ys len k size (omega arith) ∙ whole)
 
--- A piece written behind the first `len` bytes is added to them, and the room stays.
+-- A piece written after the first `len` bytes is added to them, and the room stays.
 pub piece_added : (before : WrittenBytes) (buffer after xs ys bytes : List ℕ) (len count k : ℕ)
     → ◌≡◌ {A = WrittenBytes} (record { bytes = take len buffer; room = length buffer }) before
     → after ≡ put_mid len k xs ys → xs ≡ buffer → len ≤ length buffer → count ≡ min (length bytes) (length buffer - len) → k ≡ count → ys ≡ take count bytes
@@ -30,9 +30,9 @@ pub piece_added : (before : WrittenBytes) (buffer after xs ys bytes : List ℕ) 
 piece_added before buffer after xs ys bytes len count k view held same below counted width piece =
     let short : length (take count bytes) ≡ count = length-take-le count bytes (omega arith) in
     let size : length ys ≡ count = ap length piece ∙ short in
-    let front : take (len + count) (put_mid len count buffer ys) ≡ take len buffer ++ ys = take-put_mid len count buffer ys (len + count) (omega arith) below in
+    let beginning : take (len + count) (put_mid len count buffer ys) ≡ take len buffer ++ ys = take-put_mid len count buffer ys (len + count) (omega arith) below in
     let room : length (put_mid len count buffer ys) ≡ length buffer = length_kept buffer ys len count size (omega arith) in
     let lesser : count ≡ min (length buffer - len) (length bytes) = omega arith in
     let rest : take count bytes ≡ take (length buffer - len) bytes = ap (λ n. take n bytes) lesser ∙ take_min (length buffer - len) bytes in
     let first : length (take len buffer) ≡ len = length-take-le len buffer below in
-    rw (sym view, held, same, width, front, room, first, sym rest, piece) refl
+    rw (sym view, held, same, width, beginning, room, first, sym rest, piece) refl

@@ -1,5 +1,5 @@
--- What a shelf tells of what it holds. A name is the list of its bytes. What a form doesn't tell is None: over
--- real files nothing is known. Every clause of a shelf speaks of these words.
+-- What a shelf tells of what it holds. A name is the list of its bytes. None stands for what a form doesn't tell: of real files
+-- nothing is known. Every clause of a shelf uses these definitions.
 use Rattle.std.specs.Prelude.{ℕ, List, Option, None}
 
 -- What a shelf tells: the bytes of each file, what is left of each to read, the bytes of each output, the printed bytes.

@@ -1,5 +1,5 @@
--- What a shelf in memory tells: everything. Where several files or outputs have one name, the first is meant; of a
--- name that none has, the shelf tells that there are no bytes.
+-- What a shelf in memory tells: everything. If several files or outputs have one name, the first is meant. For a name that none
+-- has, the shelf tells that there are no bytes.
 use Rattle.std.specs.Prelude.{◌≡◌, length, map, true, nat_lt, ◌+◌, ◌-◌, if◌then◌else◌, take, ℕ, List, [], Bool, Option, Some, None, Vec, String, drop, nat_eq, string_bytes, vec_len}
 use Rattle.std.specs.Cmp.Lexicographic.{pointwise}
 use Rattle.std.specs.Global.{Global}
@@ -30,22 +30,22 @@ output_named name outputs = find (λ o. spells name o.name) outputs
 abbrev pub given_named : List ℕ → List (String Global × Vec ℕ Global) → Option (String Global × Vec ℕ Global)
 given_named name files = find (λ f. spells name f.0) files
 
--- The bytes of a file, where there is one.
+-- The bytes of a file; no bytes if there is no file.
 abbrev pub file_bytes : Option MemFile → List ℕ
 file_bytes None = []
 file_bytes (Some f) = f.bytes.items
 
--- What is left of a file to read, where there is one.
+-- What is left to read of a file; nothing if there is no file.
 abbrev pub left_bytes : Option MemFile → List ℕ
 left_bytes None = []
 left_bytes (Some f) = drop f.at f.bytes.items
 
--- The bytes of an output, where there is one.
+-- The bytes of an output; no bytes if there is no output.
 abbrev pub output_bytes : Option MemOutput → List ℕ
 output_bytes None = []
 output_bytes (Some o) = o.written.bytes
 
--- The bytes of a given file, where there is one.
+-- The bytes of a given file; no bytes if there is none.
 abbrev pub given_bytes : Option (String Global × Vec ℕ Global) → List ℕ
 given_bytes None = []
 given_bytes (Some f) = f.1.items
@@ -67,7 +67,7 @@ told_by s = contents_with s.files.items s.outputs.items s.printed.bytes
 abbrev pub unpicked_file : String Global × Vec ℕ Global → MemFile
 unpicked_file f = record { name = f.0; bytes = f.1; at = vec_len f.1 }
 
--- An output with no bytes, and with room for so many.
+-- An output with no bytes, and with room for this many.
 abbrev pub empty_output : ℕ → String Global → MemOutput
 empty_output room name = record { name = name; written = record { bytes = []; room = room } }
 
@@ -94,11 +94,11 @@ pub record IsNewShelf (given : List (String Global × Vec ℕ Global)) (named : 
   pub printed : s.printed ≡ record { bytes = []; room = room }
   pub calls : AreNewCalls listed s.calls
 
--- Whether there is no room for all of the bytes behind those that were written.
+-- Whether there is no room for all of the bytes after those that were written.
 abbrev pub overflows : WrittenBytes → List ℕ → Bool
 overflows written bytes = nat_lt written.room (length written.bytes + length bytes)
 
--- What a call adds of these bytes to those that were written: nothing where it is listed, and else what fits.
+-- What a call adds of these bytes to those that were written: nothing if the call is listed, otherwise what fits.
 abbrev pub added_bytes : Calls → WrittenBytes → List ℕ → List ℕ
 added_bytes calls written bytes = if is_next_listed calls then [] else take (written.room - length written.bytes) bytes
 
@@ -107,7 +107,7 @@ abbrev pub overflows_output : Option MemOutput → List ℕ → Bool
 overflows_output None bytes = true
 overflows_output (Some o) bytes = overflows o.written bytes
 
--- Whether there is no room for all of the bytes behind the printed ones.
+-- Whether there is no room for all of the bytes after the printed ones.
 abbrev pub overflows_print : MemShelf → List ℕ → Bool
 overflows_print s bytes = overflows s.printed bytes
 
@@ -123,7 +123,7 @@ output_names s = map (λ o. string_bytes o.name) s.outputs.items
 abbrev pub output_rooms : MemShelf → List ℕ
 output_rooms s = map (λ o. o.written.room) s.outputs.items
 
--- One call was made; the names and the rooms are as they were.
+-- One call was made; the names and the rooms are unchanged.
 pub record MadeShelfCall (before now : MemShelf) : Type 0 where
   pub calls : IsNextCall before.calls now.calls
   pub files : file_names now ≡ file_names before

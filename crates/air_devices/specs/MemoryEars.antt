@@ -11,7 +11,7 @@ pub record MemEarState : Type 0 where
   pub port : Option ℕ
   pub calls : Calls
 
--- The datagrams that the fields hold, of which so many were heard.
+-- The datagrams that the fields hold and that weren't heard yet.
 abbrev pub waiting_in : Inside → List (List ℕ)
 waiting_in e = drop e.at (map (λ bytes. bytes.items) e.heard.items)
 
@@ -19,7 +19,7 @@ waiting_in e = drop e.at (map (λ bytes. bytes.items) e.heard.items)
 abbrev pub listening_in : Inside → MemEarState
 listening_in e = record { waiting = waiting_in e; port = e.port; calls = e.calls }
 
--- Each datagram that is still to be heard has a byte.
+-- Each datagram that is still to be heard has at least one byte.
 abbrev pub IsMemEar : Inside → Type 0
 IsMemEar e = All (λ bytes. 1 ≤ length bytes) (waiting_in e)
 

@@ -24,7 +24,7 @@ pub record IsNewMast (size : ℕ) (listed : List ℕ) (m : MemMast) : Type 0 whe
 abbrev pub is_send_refused : MemMast → List ℕ → Bool
 is_send_refused m bytes = is_next_listed m.calls || overflows_record m.tape bytes
 
--- One call was made; the room is as it was.
+-- One call was made; the room is unchanged.
 pub record MadeMastCall (before now : MemMast) : Type 0 where
   pub calls : IsNextCall before.calls now.calls
   pub room : now.tape.room ≡ before.tape.room

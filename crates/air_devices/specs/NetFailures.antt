@@ -9,7 +9,7 @@ pub record IsLastOf (call : NetCall) (port : Option ℕ) (last : Option NetFailu
   pub of_call : option_map (λ failure. failure.call) last ≡ Some call
   pub on_port : option_map (λ failure. failure.port) last ≡ Some port
 
--- A call that failed is the one that is kept, and a call that was done leaves what was kept.
+-- A call that failed is the one that is kept; a call that was done leaves what was kept.
 pub record KeepsLastOf {T E : Type 0} (call : NetCall) (port : Option ℕ) (before now : Option NetFailure) (result : Result T E) : Type 0 where
   pub failed : OnErr result (IsLastOf call port now)
   pub done : OnOk result (now ≡ before)

@@ -3,6 +3,6 @@ use Rattle.std.specs.Prelude.{◌≡◌, ◌<◌, ◌+◌, ℕ, List, Some, drop
 use Rattle.air_devices.specs.Contents.{Contents}
 use Rattle.air_devices.specs.WhatIsTold.{WhereTold}
 
--- The named file, where it is told, has more bytes than the limit, and was read up to the limit plus one byte.
+-- The named file, if it is told, has more bytes than the limit, and was read up to the limit plus one byte.
 abbrev pub IsTooLarge : ℕ → List ℕ → Contents → Contents → Type 0
 IsTooLarge limit name before now = WhereTold (before.file name) (λ bytes. (limit < length bytes) × (now.left name ≡ Some (drop (limit + 1) bytes)))

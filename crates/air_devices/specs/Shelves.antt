@@ -1,5 +1,5 @@
--- A shelf, as a call finds or leaves it. The trait `Shelf` has this as its one ghost word, and every clause on a
--- shelf goes by it.
+-- A shelf, as a call finds or leaves it. The trait `Shelf` has this as its one ghost function, and every clause on a shelf uses
+-- it.
 use Rattle.std.specs.Prelude.{ℕ}
 use Rattle.air_devices.specs.Contents.{Contents, nothing_told}
 use Rattle.air_devices.specs.Counts.{Faults, one_count}

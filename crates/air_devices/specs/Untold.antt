@@ -1,4 +1,4 @@
--- What a mast and an ear over the network tell: nothing of what they sent, or have still to hear.
+-- What a mast and an ear over the network tell: nothing of what they sent or have still to hear.
 use Rattle.std.specs.Prelude.{ℕ, Option, None}
 use Rattle.air_devices.specs.Masts.{MastState}
 use Rattle.air_devices.specs.Ears.{EarState}

@@ -1,9 +1,9 @@
--- Facts about what a form may leave untold: each holds where it is told. `Appends`, `Consumes` and
--- `ReadConsumes` of std stand beside these words.
+-- Facts about what a form may leave untold: each holds if it is told. `Appends`, `Consumes` and `ReadConsumes` of std are used
+-- together with these.
 use Rattle.std.specs.Prelude.{◌≡◌, ℕ, List, Option, Some, None, ⊤, take}
 use Rattle.std.specs.Io.KnownBytes.{Appends}
 
--- Contents, where told, are these bytes.
+-- If contents are told, they are these bytes.
 abbrev pub ToldIs : Option (List ℕ) → List ℕ → Type 0
 ToldIs None bytes = ⊤
 ToldIs (Some xs) bytes = bytes ≡ xs
@@ -19,5 +19,5 @@ Becomes None now bytes = ⊤
 Becomes (Some xs) now bytes = now ≡ Some bytes
 
 -- Contents that were told are told again, and grew by a prefix of these bytes.
-abbrev pub AppendsPart : Option (List ℕ) → Option (List ℕ) → List ℕ → Type 0
-AppendsPart before now bytes = (n : ℕ) × Appends before now (take n bytes)
+abbrev pub AppendsBeginning : Option (List ℕ) → Option (List ℕ) → List ℕ → Type 0
+AppendsBeginning before now bytes = (n : ℕ) × Appends before now (take n bytes)

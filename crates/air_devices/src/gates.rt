@@ -1,25 +1,25 @@
-//! The trait of what is called round each commit, each cycle and each look of the jobs that run side by side.
+//! The trait of what is called around each commit, each cycle and each look of jobs that run at the same time.
 //!
-//! The calls say nothing and refuse nothing; a gate that waits lets jobs meet, as tests do.
+//! The calls promise and refuse nothing. A gate that waits lets jobs meet, as tests do.
 
 /// Calls before and after what the jobs do.
 pub trait Gate {
     /// The updater is about to commit its update of this number.
     fn before_commit(&self, by: u32, seq: u32);
 
-    /// It did.
+    /// The updater committed that update.
     fn after_commit(&self, by: u32, seq: u32);
 
     /// The cycle is about to start.
     fn before_cycle(&self, cycle: u32);
 
-    /// Its last bucket was sent.
+    /// The last bucket of the cycle was sent.
     fn after_cycle(&self, cycle: u32);
 
-    /// A monitor is about to look, after so many looks of its job.
+    /// A monitor is about to look, after this many looks of its job.
     fn before_look(&self, look: u32);
 
-    /// It did.
+    /// The monitor looked.
     fn after_look(&self, look: u32);
 }
 

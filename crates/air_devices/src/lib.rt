@@ -1,11 +1,11 @@
-//! Where files are read, outputs are written, text is printed and buckets are sent and heard.
+//! The devices by which files are read, outputs are written, text is printed, and buckets are sent and heard.
 //!
-//! `shelves` has the trait of a device with files and outputs, and the one refusal; `masts` that of a device that sends
-//! buckets, `ears` of one that hears them. A call that fails says which count rose, so that a caller can name the cause of its own
-//! answer. `memory` has forms in memory, which tell all that they hold and fail where they are told to; `system` has those of the
-//! operating system: a shelf over real files and standard output, a mast and an ear over UDP on this machine alone, and each keeps
-//! what the system said of its last failure. `reading` reads a whole file through any shelf, `rooms` keeps bytes within a limit,
-//! and `gates` has what is called round what jobs do.
+//! `shelves` has the trait of a device with files and outputs, and the one refusal; `masts` has that of a device that sends
+//! buckets, and `ears` that of one that hears them. A call that fails says which count went up, so that a caller can name the
+//! cause of its own answer. `memory` has forms in memory, which tell all that they hold and fail where they are told to.
+//! `system` has those of the operating system: a shelf over real files and standard output, and a mast and an ear over UDP on
+//! this machine only. Each of these keeps what the system said of its last failure. `reading` reads a whole file through any
+//! shelf, `rooms` keeps bytes within a limit, and `gates` has what is called around what jobs do.
 #![tactic(auto)]
 
 pub mod ears;

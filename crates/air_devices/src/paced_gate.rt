@@ -1,13 +1,13 @@
 //! A gate at which commits and looks wait, so that they spread over the time of a run.
 //!
-//! No clause speaks of time. Where the clock fails nothing waits.
+//! No clause mentions time. If the clock fails, nothing waits.
 
 use crate::gates::Gate;
 use crate::paces::wait_until;
 use air_base::limits::MOST_UPDATERS;
 use std::time::{Clock, Duration, Instant};
 
-/// How long each updater and each monitor waits before each commit or look, counted from when the gate was made.
+/// How long each updater and each monitor waits before each commit or look, counted from the time when the gate was made.
 #[derive(Drop)]
 pub struct PacedGate<R: Clock + Drop> {
     clock: R,
@@ -27,7 +27,7 @@ impl<R: Clock + Drop> PacedGate<R> {
         }
     }
 
-    /// A gate with these waits, which begin now: one of each updater, by its number, and one of all monitors.
+    /// A gate with these waits, which begin now: one for each updater, by its number, and one for all monitors.
     pub fn from_now(
         clock: R,
         before_commits: [Duration; MOST_UPDATERS],
@@ -42,7 +42,7 @@ impl<R: Clock + Drop> PacedGate<R> {
         }
     }
 
-    /// Waits before the commit or look of this number, counted from 0, where each takes so long.
+    /// Waits before the commit or look of this number, counted from 0, if each takes this long.
     fn wait_before(&self, number: u32, wait: Duration) {
         if let Some(since) = self.since {
             wait_until(

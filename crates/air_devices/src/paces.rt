@@ -1,15 +1,15 @@
 //! How fast a mast sends: how long it waits before each datagram.
 //!
-//! A mast that wasn't given a rate rests after each few datagrams, so that a listener on the same machine takes them out of its
-//! buffer meanwhile. One that was keeps to the rate as far as it can. No clause speaks of time. Where the clock fails nothing waits.
+//! A mast that wasn't given a rate rests after every few datagrams, so that a listener on the same machine can empty its
+//! buffer. A mast with a rate keeps to it as far as it can. No clause mentions time. If the clock fails, nothing waits.
 
 use std::thread;
 use std::time::{Clock, Duration, Instant};
 
-/// After so many datagrams a mast without a rate rests.
+/// After this many datagrams a mast without a rate rests.
 const BURST: u64 = 8;
 
-/// How long it rests, in milliseconds.
+/// How long the mast rests, in milliseconds.
 const REST: u64 = 1;
 
 /// The shortest wait, in milliseconds: the system can't keep a shorter one.
@@ -18,7 +18,7 @@ const SHORTEST_WAIT: u64 = 1;
 /// The nanoseconds of a second.
 const SECOND: u64 = 1_000_000_000;
 
-/// How many datagrams were sent, and at a rate how many nanoseconds each has, and when the first was sent.
+/// How many datagrams were sent, when the first was sent and, if there is a rate, how many nanoseconds each datagram has.
 #[derive(Drop)]
 pub(crate) struct Pace {
     step: Option<u64>,
@@ -26,7 +26,7 @@ pub(crate) struct Pace {
     sent: u64,
 }
 
-/// Waits until so much time has gone since then. A wait of less than a millisecond is left out.
+/// Waits until this much time has passed since then. A wait of less than a millisecond is left out.
 pub(crate) fn wait_until<R: Clock>(clock: &R, since: Instant, due: Duration) {
     let Ok(gone) = since.elapsed(clock) else {
         return;
@@ -38,7 +38,7 @@ pub(crate) fn wait_until<R: Clock>(clock: &R, since: Instant, due: Duration) {
 }
 
 impl Pace {
-    /// So many datagrams a second, where a rate is given; 0 counts as 1.
+    /// The pace of this many datagrams a second, if a rate is given; 0 counts as 1.
     pub fn new(rate: Option<u32>) -> Pace {
         let step = match rate {
             Some(rate) => Some(SECOND / u64::from(rate.max(1))),
@@ -65,7 +65,7 @@ impl Pace {
         }
     }
 
-    /// Waits until so much time has gone since the first datagram.
+    /// Waits until this much time has passed since the first datagram.
     fn wait_since_first<R: Clock>(&mut self, clock: &R, due: Duration) {
         match self.since {
             Some(since) => wait_until(clock, since, due),

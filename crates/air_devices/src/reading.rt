@@ -1,7 +1,7 @@
 //! Whole files, read through any shelf up to a stated limit.
 //!
-//! The loop ends by itself: each round takes at least one byte or returns, and none goes past the limit by more
-//! than one byte. The answer for a file that can't be read says which count of faults rose.
+//! The loop always ends: each round takes at least one byte or returns, and no round goes past the limit by more than one byte.
+//! The answer for a file that can't be read says which count of faults went up.
 
 ghost use Rattle.std.specs.Prelude.{◌≡◌, ◌≢◌, ◌<◌, ◌≤◌, ◌+◌, ℕ, List, Option, Err, length, IfOk, OnOk};
 ghost use Rattle.std.specs.Io.KnownBytes.{IsAtEnd, Keeps, prepend_known};
@@ -17,12 +17,12 @@ use std::alloc::{AllocError, Global};
 use std::error::Error;
 use std::fmt;
 
-/// Why a file was not read.
+/// Why a file wasn't read.
 #[derive(Clone, Copy, Debug, PartialEq, Eq)]
 pub enum ReadFileError {
     /// The shelf failed.
     Failed,
-    /// The file has more bytes than the limit; what is left is what lies behind the limit and one byte, where told.
+    /// The file has more bytes than the limit. If it is told, what is left is what comes after the limit and one more byte.
     TooLarge,
     /// There was no memory for the bytes.
     NoMemory,
@@ -51,10 +51,11 @@ impl From<AllocError> for ReadFileError {
     }
 }
 
-/// How many bytes one read asks for at most.
+/// The most bytes that one read asks for.
 const BLOCK: usize = 16_384;
 
-/// Adds the next bytes of a file that was picked, as many as one read gives, and tells how many they are: none only at its end.
+/// Adds the next bytes of a file that was picked, as many as one read gives, and gives their number, which is 0 only at the
+/// file's end.
 #[tactic(auto, using(crate::proofs::ReadOnLemmas::reads_on))]
 fn read_on<S: Shelf>(
     shelf: &mut S,

@@ -1,4 +1,5 @@
-//! Tests of the mast and the ear over real sockets of this machine. What is data of the devices is in `device_cases`.
+//! Tests of the mast and the ear over real sockets of this machine. Tests of the devices that are tables of data are in
+//! `device_cases`.
 #![tactic(auto)]
 
 #[cfg(test)]

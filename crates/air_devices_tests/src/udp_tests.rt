@@ -1,7 +1,7 @@
 //! Datagrams that a mast sends and an ear hears, over real sockets of this machine.
 //!
-//! At the other end is a socket of the test. A datagram to this machine waits at the socket of its port from the moment
-//! that its send returns, so that what was sent is there to be heard.
+//! At the other end is a socket of the test. Once a send returns, the datagram waits at the socket of its port on this machine,
+//! so what was sent is there to be heard.
 
 ghost use Rattle.std.specs.Prelude.{IsSome};
 
@@ -17,7 +17,7 @@ fn loopback(port: u16) -> SocketAddr {
     SocketAddr::from(([127, 0, 0, 1], port))
 }
 
-/// A socket at any free port, which waits for a datagram for ten seconds at most, and its port.
+/// A socket at any free port, which waits at most ten seconds for a datagram, and its port.
 fn plain_socket<R: Net>(net: &R) -> io::Result<(UdpSocket, u16)> {
     let socket = UdpSocket::bind(net, loopback(0))?;
     socket.set_read_timeout(Some(Duration::from_secs(10)))?;
@@ -25,7 +25,7 @@ fn plain_socket<R: Net>(net: &R) -> io::Result<(UdpSocket, u16)> {
     Ok((socket, port))
 }
 
-/// Sends the bytes, or the end where there are none; it fails where they are past the longest.
+/// Sends the bytes, or the end if there are none; it fails if they are longer than the longest datagram.
 fn send<M: Mast>(mast: &mut M, bytes: &[u8]) -> Result<(), Failed> {
     if bytes.is_empty() {
         return mast.finish();
@@ -39,7 +39,7 @@ fn send<M: Mast>(mast: &mut M, bytes: &[u8]) -> Result<(), Failed> {
 /// How often the end comes.
 const END_MARKS: usize = 3;
 
-/// Whether these bytes come to the socket, the end three times.
+/// Whether these bytes arrive at the socket; the end has to arrive three times.
 fn comes(far: &UdpSocket, buf: &mut [u8], bytes: &[u8]) -> io::Result<bool> {
     let times = if bytes.is_empty() { END_MARKS } else { 1 };
     for _ in 0..times {
@@ -51,7 +51,7 @@ fn comes(far: &UdpSocket, buf: &mut [u8], bytes: &[u8]) -> io::Result<bool> {
     Ok(true)
 }
 
-/// The place of the first datagram that the mast doesn't send, or that doesn't come to the socket as it was sent.
+/// The place of the first datagram that the mast doesn't send, or that doesn't arrive at the socket as it was sent.
 fn first_lost<M: Mast>(
     mast: &mut M,
     far: &UdpSocket,
@@ -88,7 +88,7 @@ fn free_port<R: Net>(net: &R) -> io::Result<u16> {
     Ok(port)
 }
 
-/// The bytes that are heard with room for three, none at the end or where it fails.
+/// Whether the ear hears these bytes, with room for three; no bytes stand for the end. After a failure the answer is false.
 fn heard_is<E: Ear>(ear: &mut E, told: &[u8]) -> bool
     requires { IsSome (E.state ear.old).port }
     ensures { IsSome (E.state ear.new).port }

@@ -1,4 +1,4 @@
--- The words that are drawn: word i is that of the generator after i words, however many follow.
+-- The words that are drawn: word i is the one of the generator after i words, for any number of words that follow.
 use Rattle.std.proofs.Common.{◌≡◌, ℕ, zero, suc, ◌+◌, ◌*◌, ◌/◌, ◌%◌, ◌<◌, ◌≤◌, Bool, true, false, get_or, refl, sym, ◌∙◌, ap, arith, if◌then◌else◌, nat_lt}
 use Rattle.std.proofs.Math.Nat.{mod-lt}
 use Rattle.rand_pcg.specs.Lcg.{Lcg}
@@ -17,7 +17,7 @@ word_at step zero i g l = absurd (omega arith)
 word_at step (suc m) zero g l = refl
 word_at step (suc m) (suc i) g l = word_at step m i (step g).1 (omega arith)
 
--- Two long enough lists of words say the same of a push.
+-- Two lists of words that are long enough say the same of a push.
 pub due_told : (odds : Odds) (seed number n place : ℕ) → place < n → due_number odds (words_of seed number (3 * n)) place ≡ due_in seed number odds place
 unfolding due_number due_in
 due_told odds seed number n place l =

@@ -13,7 +13,7 @@ use Rattle.air_ether.specs.KeptPushes.{push_of}
 abbrev pub odds_of : Odds → model.Odds
 odds_of o = record { loss = o.loss; again = o.again; late = o.late }
 
--- What the fields tell.
+-- The ether that the fields hold.
 abbrev pub ether_in : Inside → Ether
 ether_in e = record {
   odds = odds_of e.odds;
@@ -22,14 +22,14 @@ ether_in e = record {
   pushes = e.pushes;
   ended = e.ended;
   cursor = e.cursor;
-  rooms = map push_of e.rooms.items;
+  queue = map push_of e.queue.items;
 }
 
--- There are `KEPT` rooms, each for the longest bucket, and the cursor is in the window.
+-- There are `KEPT` queued pushes, each with room for the longest bucket, and the cursor is in the window.
 pub record IsEther (e : Inside) : Type 0 where
-  pub count : length e.rooms.items ≡ KEPT
-  pub sized : All (λ w. length w.room.items ≡ e.most) e.rooms.items
-  pub short : All (λ w. w.len ≤ e.most) e.rooms.items
-  pub twice : All (λ w. w.times ≤ 2) e.rooms.items
+  pub count : length e.queue.items ≡ KEPT
+  pub sized : All (λ w. length w.room.items ≡ e.most) e.queue.items
+  pub short : All (λ w. w.len ≤ e.most) e.queue.items
+  pub twice : All (λ w. w.times ≤ 2) e.queue.items
   pub few : e.pushes ≤ MOST_PUSHES
-  pub within : InWindow e.pushes (limit_of e.ended e.pushes) (map push_of e.rooms.items) e.cursor
+  pub within : InWindow e.pushes (limit_of e.ended e.pushes) (map push_of e.queue.items) e.cursor

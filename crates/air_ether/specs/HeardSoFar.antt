@@ -10,8 +10,8 @@ use Rattle.air_ether.specs.HeardPositions.{left_at, position}
 use Rattle.air_ether.specs.KeptPushes.{Push, Waits, push_in}
 use Rattle.air_ether.specs.PushWords.{due_in, left_by, times_in}
 
--- The odds, the greatest length of a bucket, the generator, how many were pushed, whether the end was told, where it stands
--- in the heard list, and the last `KEPT` pushes, each at its place modulo `KEPT`.
+-- The odds, the greatest length of a bucket, the generator, how many buckets were pushed, whether the end was told, the
+-- position in the heard list, and the last `KEPT` pushes, each at its place modulo `KEPT`.
 pub record Ether : Type 0 where
   pub odds : Odds
   pub most : ℕ
@@ -19,9 +19,9 @@ pub record Ether : Type 0 where
   pub pushes : ℕ
   pub ended : Bool
   pub cursor : Cursor
-  pub rooms : List Push
+  pub queue : List Push
 
--- Due numbers below this are due: after the end, all of them.
+-- Pushes with due numbers below this are due; after the end all are.
 abbrev pub limit_of : Bool → ℕ → ℕ
 limit_of ended pushes = if ended then pushes + 8 else pushes
 
@@ -29,7 +29,7 @@ limit_of ended pushes = if ended then pushes + 8 else pushes
 abbrev pub IsQuiet : Ether → Type 0
 IsQuiet e = e.cursor.number ≡ limit_of e.ended e.pushes
 
--- A bound on the buckets that are due: it falls with each one that is given.
+-- A bound on the number of buckets that are due. It falls with each one that is given.
 abbrev pub left_of : Ether → ℕ
 left_of e = left_at (limit_of e.ended e.pushes) e.cursor
 
@@ -39,10 +39,10 @@ due_of seed number odds pushed ended =
     map (λ place. slice_index_or pushed place [])
     (places_due odds (words_of seed number (3 * length pushed)) (length pushed) (limit_of ended (length pushed)))
 
--- The ether of this seed and this number was given this pushed list, and gave so many members of what is heard of it.
+-- The ether of this seed and this number was given this pushed list, and gave this many members of what is heard of it.
 pub record IsEtherAfter (seed number : ℕ) (pushed : List (List ℕ)) (given : ℕ) (e : Ether) : Type 0 where
   pub drawn : e.generator ≡ left_by pcg32 (3 * length pushed) (generator seed number)
   pub pushes : e.pushes ≡ length pushed
-  pub waits : Waits (due_in seed number e.odds) (times_in seed number e.odds) e.pushes e.rooms
-  pub bytes : (p : ℕ) → p < e.pushes → e.pushes ≤ p + KEPT → (push_in e.rooms p).bytes ≡ slice_index_or pushed p []
+  pub waits : Waits (due_in seed number e.odds) (times_in seed number e.odds) e.pushes e.queue
+  pub bytes : (p : ℕ) → p < e.pushes → e.pushes ≤ p + KEPT → (push_in e.queue p).bytes ≡ slice_index_or pushed p []
   pub counted : given ≡ position (due_in seed number e.odds) (times_in seed number e.odds) e.pushes e.cursor

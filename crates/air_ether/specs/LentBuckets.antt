@@ -1,4 +1,4 @@
--- What an ether is once the bucket that `next` lent is given back.
+-- What an ether is after the bucket that `next` lent is given back.
 use Rattle.std.specs.Prelude.{◌≡◌, ℕ, ◌+◌, ◌<◌, List, Option, IfNone, MatchOption, OnSome}
 use Rattle.std.specs.Borrow.{MutBor, Fml}
 use Rattle.std.specs.Io.BufRead.{Rests}
@@ -6,7 +6,7 @@ use denote.Ref.{Bor}
 use Rattle.air_ether.specs.contracts.ether.Ether.{the_row}
 use Rattle.air_ether.specs.HeardSoFar.{Ether, IsEtherAfter, IsQuiet, left_of}
 
--- The same ether, further on by one where a bucket was given, and quiet where none was.
+-- The same ether: if a bucket was given, one member further; if none was given, quiet.
 pub record Gave (old : Ether) (result : Option (Bor (List ℕ))) (new : Ether) : Type 0 where
   pub most : new.most ≡ old.most
   pub odds : new.odds ≡ old.odds
@@ -17,6 +17,6 @@ pub record Gave (old : Ether) (result : Option (Bor (List ℕ))) (new : Ether) :
   pub follows : (seed number given : ℕ) (pushed : List (List ℕ)) → IsEtherAfter seed number pushed given old →
       MatchOption result (IsEtherAfter seed number pushed given new) (λ _. IsEtherAfter seed number pushed (given + 1) new)
 
--- The ether is so, once the result is given back.
+-- The ether is the one of `Gave` once the result is given back.
 abbrev pub Gives : MutBor Ether → Option (Bor (List ℕ)) → Fml
 Gives e result = Rests the_row e (Gave e.now result)

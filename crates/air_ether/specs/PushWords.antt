@@ -21,7 +21,7 @@ times_by loss again first second =
     else if nat_lt (second % 100) again then 2
     else 1
 
--- The due number of the push at a place with this word, at these odds of being late.
+-- The due number of the push at a place with this word, for these odds of a delay.
 abbrev pub due_by : ℕ → ℕ → ℕ → ℕ
 due_by late place third = if nat_lt (third % 100) late then place + 1 + third / 100 % 8 else place
 

@@ -1,6 +1,7 @@
-//! The ether itself: its contracts say which pushed list it follows, and how many members of what is heard of it were given.
+//! The ether: its contracts say which pushed list it follows, and how many members of what is heard of it were given.
 //!
-//! `due_of` is what is due of a pushed list, after the end all that is heard of it. `next` gives its members one by one.
+//! `due_of` is what is due of a pushed list; after the end, that is all that is heard of it. `next` gives its members one by
+//! one.
 
 ghost use Rattle.std.specs.Prelude.{◌≡◌, ℕ, ◌+◌, ◌-◌, ◌<◌, ◌≤◌, List, [], ◌∷◌, ◌++◌, true, false, length, IfOk, Some, Contains, IfSome, MatchOption, slice_get};
 ghost use Rattle.air_base.specs.declared.limits.TheConstants.{MOST_SHARE};
@@ -9,7 +10,7 @@ ghost use Rattle.air_ether.specs.declared.ether.TheConstants.{MOST_BYTES, MOST_D
 
 use crate::cursor::{Cursor, seek};
 use crate::odds::Odds;
-use crate::waiting::{KEPT, QueuedPush, rooms};
+use crate::waiting::{KEPT, QueuedPush, queue};
 use air_base::NoMemory;
 use air_base::limits::MOST_DATAGRAM_BYTES;
 use rand_pcg::Lcg64Xsh32;
@@ -22,10 +23,10 @@ pub const MOST_BYTES: usize = MOST_DATAGRAM_BYTES;
 /// The most pushes: no due number goes over 64 bits.
 pub const MOST_PUSHES: u64 = 18_446_744_073_709_551_600;
 
-/// After a push, and after the end, at most so many buckets are due.
+/// After a push, and after the end, at most this many buckets are due.
 pub const MOST_DUE: u64 = 269;
 
-/// Due numbers below this are due: after the end, all of them.
+/// Pushes with due numbers below this are due; after the end all are.
 fn limit_of(ended: bool, pushes: u64) -> u64
     requires { pushes ≤ MOST_PUSHES }
     ensures { result ≡ limit_of ended pushes }
@@ -34,7 +35,7 @@ fn limit_of(ended: bool, pushes: u64) -> u64
 }
 
 /// The ether of one reader: its odds, the most bytes of a bucket, its words, how many buckets were pushed, whether the end was
-/// told, where it stands in the heard list, and the last `KEPT` pushes.
+/// told, its position in the heard list, and the last `KEPT` pushes.
 #[derive(Drop)]
 pub struct Ether {
     odds: Odds,
@@ -43,7 +44,7 @@ pub struct Ether {
     pushes: u64,
     ended: bool,
     cursor: Cursor,
-    rooms: Vec<QueuedPush>,
+    queue: Vec<QueuedPush>,
 }
 
 impl Model for Ether {
@@ -90,13 +91,13 @@ impl Ether {
             cursor: Cursor {
                 number: 0,
                 place: 0,
-                copy: 0,
+                given: 0,
             },
-            rooms: rooms(alloc, most)?,
+            queue: queue(alloc, most)?,
         })
     }
 
-    /// Pushes a bucket, where nothing that is due waits, as `new` leaves it, and `next` when it gives none.
+    /// Pushes a bucket. Nothing that is due may wait: so it is after `new`, and when `next` gives None.
     pub fn push(&mut self, bytes: &[u8])
         requires room { length bytes.now ≤ self.old.most }
         requires quiet { IsQuiet self.old }
@@ -111,12 +112,12 @@ impl Ether {
             IsEtherAfter seed number (pushed ++ bytes.now ∷ []) given self.new }
     {
         let hearing = self.odds.draw(&mut self.generator, self.pushes);
-        let room = &mut self.rooms[(self.pushes % KEPT) as usize];
+        let room = &mut self.queue[(self.pushes % KEPT) as usize];
         room.fill(hearing, bytes);
         self.pushes += 1;
     }
 
-    /// The next heard bucket, or none where no further one is due.
+    /// The next heard bucket; None if no further one is due.
     pub fn next(&mut self) -> Option<&[u8]>
         ensures pushed { (seed number given : ℕ) (pushed : List (List ℕ)) → IsEtherAfter seed number pushed given self.old →
             IfSome result (λ b. Contains pushed b.now) }
@@ -126,15 +127,15 @@ impl Ether {
         ensures* after { sem 𝓛 (Gives self.entry result) }
     {
         let limit = limit_of(self.ended, self.pushes);
-        if !seek(&mut self.cursor, &self.rooms, self.pushes, limit) {
+        if !seek(&mut self.cursor, &self.queue, self.pushes, limit) {
             return None;
         }
-        self.cursor.copy += 1;
+        self.cursor.given += 1;
         let room = (self.cursor.place % KEPT) as usize;
-        Some(self.rooms[room].bytes())
+        Some(self.queue[room].bytes())
     }
 
-    /// Makes all the rest due, where nothing that is due waits.
+    /// Makes all the rest due. Nothing that is due may wait.
     pub fn end(&mut self)
         requires { IsQuiet self.old }
         ensures room { self.new.most ≡ self.old.most }

@@ -1,8 +1,8 @@
 //! The ether of one reader: which pushed buckets it hears, how often, and when.
 //!
-//! An ether draws three words for each push, whatever becomes of it (`odds`). It keeps the last `KEPT` pushes alone
-//! (`waiting`), so no call but `new` takes memory. What `next` gives is the heard list of all that was pushed: `cursor`
-//! finds the next of its members that is due. `laws` says what is due before and after the end.
+//! An ether draws three words for each push, whether it is heard or not (`odds`). It keeps only the last `KEPT` pushes
+//! (`waiting`), so no call but `new` takes memory. What `next` gives is the heard list of all that was pushed: `cursor` finds
+//! the next of its members that is due. `laws` says what is due before and after the end.
 #![tactic(auto)]
 
 mod cursor;

@@ -1,4 +1,4 @@
-//! What becomes of one push, by the three words that are drawn for it.
+//! How often one push is heard and when, by the three words that are drawn for it.
 
 ghost use Rattle.std.specs.Prelude.{◌≡◌, ◌-◌, ◌<◌, ◌≤◌};
 ghost use Rattle.rand_pcg.specs.Pcg.{pcg32};
@@ -8,7 +8,7 @@ ghost use Rattle.air_ether.specs.PushWords.{due_by, left_by, times_by, word_afte
 use rand_core::utils::NextWord;
 use rand_pcg::Lcg64Xsh32;
 
-/// How many of a hundred buckets are lost, heard again, and late.
+/// How many of a hundred buckets are lost, heard again, and delayed.
 #[derive(Clone, Copy, Debug, Drop)]
 pub struct Odds {
     pub loss: u32,
@@ -24,7 +24,7 @@ pub struct Hearing {
 }
 
 impl Odds {
-    /// Draws the three words of the push at a place, and tells what becomes of it.
+    /// Draws the three words of the push at a place, and gives its due number and how often it is heard.
     pub fn draw(&self, generator: &mut Lcg64Xsh32, place: u64) -> Hearing
         requires { place < MOST_PUSHES }
         ensures after { generator.new ≡ left_by pcg32 3 generator.old }

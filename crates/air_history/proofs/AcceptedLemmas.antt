@@ -42,14 +42,14 @@ all_to f (r ∷ R) h = by (f r) (All-head (λ r. f r ≡ true) r R h) (all_to f 
     by true e rest = rest
     by false e rest = e
 
--- What accepted reads keep: they are consistent; they are current; or g is a cycle that has them all, from the
--- first one's to the last one's.
+-- What holds of accepted reads: under F-Matrix they are consistent; under Datacycle they are current; under R-Matrix they share
+-- cycle g, which lies between the first read's cycle and the last one's.
 abbrev pub IsKept : Policy → List Event → List ReadAt → ℕ → Type 0
 IsKept FMatrix H R g = IsConsistent H R
 IsKept Datacycle H R g = IsCurrent H R
 IsKept RMatrix H R g = SharesCycle H R g × (first_cycle R ≤ g) × (g ≤ last_cycle R)
 
--- The cycle that stands for the reads after one more, under R-Matrix.
+-- The cycle that the reads share after one more, under R-Matrix.
 abbrev pub cycle_with : List Event → List ReadAt → ReadAt → ℕ → ℕ
 cycle_with H R x g = cond (list_all (λ r. not (stale H r x.cycle)) R) x.cycle g
 
@@ -122,7 +122,7 @@ accepts_push p H R x accepts late none k d l = elim (cases_lt k (length R)) as (
       ∙ ap (passes p H R) (get_or_push R x d k (sym same)) ∙ passes_from p H R x late none)
 ]
 
--- The current cycle of the first n reads, by the tests over all.
+-- The cycle that the first n reads share, found by testing all of them.
 abbrev cycle_of_first : List Event → List ReadAt → ℕ → ℕ
 cycle_of_first H R n = option_map_or (cycle_in R) (last_place n (λ k. list_all (λ r. not (stale H r (cycle_in R k))) (take k R))) 0
 
@@ -147,7 +147,7 @@ all_take R n are l k d lt = let within : k < n = omega (arith, length-take n R) 
 no_read : ReadAt
 no_read = record { item = 0; cycle = 0 }
 
--- What accepted reads keep, the first n have.
+-- If reads are accepted, what holds of accepted reads holds of the first n of them.
 kept_of_first : (p : Policy) (H : List Event) (R : List ReadAt) → All IsRead R → Accepts p H R → (n : ℕ) → n ≤ length R → IsKept p H (take n R) (cycle_of_first H R n)
 kept_of_first p H R are accepts zero l = subst (IsKept p H []) (sym (cycle_of_no_read H R)) (kept_none p H)
 kept_of_first p H R are accepts (suc n) l =

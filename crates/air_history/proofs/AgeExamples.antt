@@ -1,4 +1,4 @@
--- Ages, computed: which entries they tell, how far reads lie apart, and which heard entries are those of a history.
+-- Ages, computed: which entries an age gives, how far apart reads are, and which heard entries are those of a history.
 use Rattle.std.proofs.Common.{◌≡◌, ◌⊎◌, ℕ, zero, suc, ◌<◌, ◌≤◌, true, false, List, [], ◌∷◌, Some, None, replicate, refl, inl, inr, arith}
 use Rattle.std.proofs.lemmas.List.Elements.{All-from_recursion}
 use Rattle.air_base.specs.declared.verdicts.Policy.TheVariants.{Datacycle}
@@ -15,22 +15,22 @@ use Rattle.air_history.proofs.HistoryExamples.{commit, set_to}
 use Rattle.air_history.proofs.ClashExamples.{at}
 
 pub record Ages : Type 0 where
-  -- an entry that is 254 cycles old is told, and one that is 255 cycles old isn't
+  -- an entry that is 254 cycles old has an age, and one that is 255 cycles old has none
   young : capped 1 255 ≡ 1
   old : capped 1 256 ≡ 0
-  -- so is it of a later entry
+  -- the same holds of later entries
   young_later : capped 46 300 ≡ 46
   old_later : capped 45 300 ≡ 0
-  -- without a writer there is nothing to tell
+  -- without a writer the entry is 0
   never : capped 0 9 ≡ 0
-  -- of no read and of one the span is 0
+  -- the span of no read and of one read is 0
   none : span [] ≡ 0
   one : span (at 0 5 ∷ []) ≡ 0
   -- the order of reading doesn't count
   falling : span (at 0 300 ∷ at 1 46 ∷ []) ≡ 254
   oldest_between : span (at 0 3 ∷ at 1 1 ∷ at 2 2 ∷ []) ≡ 2
   oldest : oldest_cycle (at 0 3 ∷ at 1 1 ∷ at 2 2 ∷ []) ≡ 1
-  -- 254 cycles aren't too far, and 255 are, whichever way
+  -- 254 cycles aren't too far, and 255 are, in either order
   close : spans_too_far (at 0 300 ∷ at 1 46 ∷ []) ≡ false
   far : spans_too_far (at 0 300 ∷ at 1 45 ∷ []) ≡ true
   far_rising : spans_too_far (at 0 1 ∷ at 1 256 ∷ []) ≡ true
@@ -53,7 +53,7 @@ ages = record {
   far_rising = refl;
 }
 
--- ---- a write that grows old
+-- ---- a write that becomes too old for an age
 
 -- Item 0 of two is written in cycle 1, and nothing else up to cycle 256. So from cycle 2 on the write vector is 1 0.
 abbrev written_once : List Event
@@ -72,10 +72,10 @@ abbrev AreAired : HeardRead → HeardRead → Type 0
 AreAired r x = HaveAiredEntries (scheme_of Datacycle) 2 written_once (r ∷ []) x
 
 pub record Old : Type 0 where
-  -- in cycle 256 the entry of item 0 may be heard as it is, and as 0
+  -- in cycle 256 the entry of item 0 may be heard as 1, which it is, or as 0
   in_full : MayBeHeard (of_two 1 256 1 0)
   by_age : MayBeHeard (of_two 1 256 0 0)
-  -- and as no other number; in cycle 255 it may not be heard as 0
+  -- it may be heard as no other number; in cycle 255 it may not be heard as 0
   other : MayBeHeard (of_two 1 256 2 0) → ⊥
   too_young : MayBeHeard (of_two 1 255 0 0) → ⊥
   -- there are two entries
@@ -84,7 +84,7 @@ pub record Old : Type 0 where
   together : AreAired (of_two 0 2 1 0) (of_two 1 256 0 0)
   -- with item 0 of cycle 1 they are 255 apart
   apart : AreAired (of_two 0 1 0 0) (of_two 1 256 0 0) → ⊥
-  -- there the capped entry doesn't tell that item 0 was written since
+  -- with item 0 of cycle 1, the capped entry doesn't show that item 0 was written since
   by_history : clash_by_history Datacycle written_once (at 0 1 ∷ []) (at 1 256) ≡ Some (record { item = 0; cycle = 1 })
   by_entries : clash_by_entries Datacycle (of_two 0 1 0 0 ∷ []) (of_two 1 256 0 0) ≡ None
 
@@ -93,7 +93,7 @@ each_of_two P p q zero l = p
 each_of_two P p q (suc zero) l = q
 each_of_two P p q (suc (suc k)) l = absurd (omega arith)
 
--- The entry of an item is the aired one, or what an age tells of it.
+-- The entry of an item is the aired one, or the aired one capped by its age.
 abbrev IsTold : HeardRead → ℕ → Type 0
 IsTold r i = (entry_of r i ≡ aired_entry (scheme_of Datacycle) 2 written_once r i) ⊎ (entry_of r i ≡ capped (aired_entry (scheme_of Datacycle) 2 written_once r i) r.cycle)
 

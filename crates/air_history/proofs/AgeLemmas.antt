@@ -1,6 +1,6 @@
--- Entries as ages tell them. The cap and the span are one number: a capped entry is so old that it lies below each cycle from
--- which the read isn't too far, so 0 in its place answers the same. So the entries of reads that lie close together answer as
--- the history's do (`answered`), and for the laws of clashes that is enough.
+-- Entries as ages give them. The cap equals the span from which reads are too far apart. So a capped entry is below each cycle
+-- that it is compared with, and 0 in its place answers the same. The entries of reads that are close together therefore answer
+-- as the history's do (`answered`), which is enough for the laws of clashes.
 use Rattle.std.proofs.Common.{◌≡◌, ℕ, zero, suc, ◌-◌, ◌<◌, ◌≤◌, min, max, Bool, true, false, cond, nat_le, nat_lt, List, [], ◌∷◌, ◌++◌, length, map, get_or, All, refl, sym, ◌∙◌, ap, subst, inl, inr, arith}
 use Rattle.std.proofs.lemmas.Bool.{ltb-false, leb-false, lt-leb}
 use Rattle.std.proofs.lemmas.List.Elements.{All-from_get_or}
@@ -18,7 +18,7 @@ use Rattle.air_history.specs.ClashLaws.{HasAiredEntries, HasCappedEntries, HaveA
 
 -- ---- one entry
 
--- Against a cycle d that lies less than the cap before c, the entry answers in cycle c as it does where it is capped.
+-- Compared with a cycle d that is less than the cap before c, a capped entry answers in cycle c as the entry itself.
 pub cap_hidden : (e c d : ℕ) → 1 ≤ d → c - d < AGE_CAP → nat_le d (capped e c) ≡ nat_le d e
 unfolding capped
 cap_hidden e c d pos near = by (nat_lt (c - e) AGE_CAP) refl
@@ -31,7 +31,7 @@ cap_hidden e c d pos near = by (nat_lt (c - e) AGE_CAP) refl
         let below : nat_le d e ≡ false = lt-leb d e (omega arith) in
         none ∙ sym below
 
--- It is below each number that the entry is below.
+-- A capped entry is below each number that the entry is below.
 pub capped_less : (e c k : ℕ) → e < k → capped e c < k
 unfolding capped
 capped_less e c k l = by (nat_lt (c - e) AGE_CAP)
@@ -40,9 +40,9 @@ capped_less e c k l = by (nat_lt (c - e) AGE_CAP)
     by true = l
     by false = omega arith
 
--- ---- how far reads lie apart
+-- ---- how far apart reads are
 
--- The oldest of a cycle and of the reads' cycles, read by read.
+-- The oldest of cycle c and of the reads' cycles, read by read.
 abbrev pub oldest_with : ℕ → List ReadAt → ℕ
 oldest_with c [] = c
 oldest_with c (r ∷ R) = oldest_with (min c r.cycle) R
@@ -62,7 +62,7 @@ newest_push : (R : List ReadAt) (x : ReadAt) → newest_cycle (R ++ x ∷ []) �
 newest_push [] x = omega arith
 newest_push (r ∷ R) x = let rest = newest_push R x in omega arith
 
--- The span of reads with one more, by the newest and the oldest of their cycles.
+-- The span of reads with one more read, from the newest and the oldest of their cycles.
 pub span_push : (R : List ReadAt) (x : ReadAt) (newest oldest : ℕ) → newest ≡ max x.cycle (newest_cycle R) → oldest ≡ oldest_with x.cycle R →
     newest - oldest ≡ span (R ++ x ∷ [])
 unfolding span
@@ -81,13 +81,13 @@ newest_at_least [] k d l = absurd (omega arith)
 newest_at_least (r ∷ R) zero d l = omega arith
 newest_at_least (r ∷ R) (suc k) d l = let rest = newest_at_least R k d (omega arith) in omega arith
 
--- None is older than the oldest.
+-- No read is older than the oldest.
 oldest_of_each : (c : ℕ) (R : List HeardRead) → All (λ r. oldest_with c (map read_at R) ≤ r.cycle) R
 oldest_of_each c [] k d l = absurd (omega arith)
 oldest_of_each c (r ∷ R) zero d l = let rest = oldest_at_most (min c r.cycle) (map read_at R) in omega arith
 oldest_of_each c (r ∷ R) (suc k) d l = oldest_of_each (min c r.cycle) R k d (omega arith)
 
--- Where the held reads and the new one don't lie too far apart, neither does each of them and the new one.
+-- If the held reads and the new one aren't too far apart, each held read and the new one aren't either.
 pub near_new : (R : List HeardRead) (x : HeardRead) → spans_too_far (map read_at R ++ read_at x ∷ []) ≡ false → All (λ r. (r.cycle - x.cycle < AGE_CAP) × (x.cycle - r.cycle < AGE_CAP)) R
 unfolding spans_too_far
 near_new R x close k d l =
@@ -101,11 +101,11 @@ near_new R x close k d l =
 
 -- ---- all entries of a read
 
--- Against the cycle d each entry of the read answers as the one that H airs with it.
+-- Compared with cycle d, each entry of the read answers as the one that H airs with it.
 abbrev pub Answers : Scheme → ℕ → List Event → ℕ → HeardRead → Type 0
 Answers scheme n H d r = (i : ℕ) → i < n → nat_le d (entry_of r i) ≡ nat_le d (aired_entry scheme n H r i)
 
--- The held read r and the new read x answer so against each other's cycles.
+-- The held read r and the new read x answer this way for each other's cycles.
 pub record IsAnswered (scheme : Scheme) (n : ℕ) (H : List Event) (x r : HeardRead) : Type 0 where
   pub cycle : 1 ≤ r.cycle
   pub within : r.item < n
@@ -121,7 +121,7 @@ by_age scheme n H r is d pos near i l = elim (is.entries i l) as (λ _. nat_le d
   | inr cap ↦ ap (nat_le d) cap ∙ cap_hidden (aired_entry scheme n H r i) r.cycle d pos near
 ]
 
--- Reads that have what H airs answer as the history.
+-- Reads that have what H airs answer as the history does.
 pub answered : (scheme : Scheme) (n : ℕ) (H : List Event) (R : List HeardRead) (x : HeardRead) → HaveAiredEntries scheme n H R x → All (IsAnswered scheme n H x) R
 answered scheme n H R x (inl full) k d l = let r = get_or R k d in record {
   cycle = (full.0 k d l).cycle;
@@ -136,7 +136,7 @@ answered scheme n H R x (inr aged) k d l = let r = get_or R k d in let near = ne
   by_new = by_age scheme n H x aged.1 r.cycle (aged.0 k d l).cycle near.1;
 }
 
--- And the new read is of a cycle from 1 on, and of one of the items.
+-- The new read's cycle is at least 1.
 pub new_cycle : (scheme : Scheme) (n : ℕ) (H : List Event) (R : List HeardRead) (x : HeardRead) → HaveAiredEntries scheme n H R x → 1 ≤ x.cycle
 new_cycle scheme n H R x (inl full) = full.1.cycle
 new_cycle scheme n H R x (inr aged) = aged.1.cycle
@@ -160,7 +160,7 @@ full_is_capped scheme n H r is = record {
   entries = λ i l. inl (ap (λ es. get_or es i 0) is.entries);
 }
 
--- Where what H airs with the read is below a number, so are the entries as ages tell them.
+-- If what H airs with the read is below a number, the capped entries are below it too.
 pub capped_below : (scheme : Scheme) (n : ℕ) (H : List Event) (r : HeardRead) (k : ℕ) → HasCappedEntries scheme n H r → ((i : ℕ) → i < n → aired_entry scheme n H r i < k) → All (λ e. e < k) r.entries
 capped_below scheme n H r k is below = All-from_get_or (λ e. e < k) r.entries 0 (λ i l.
     let within : i < n = omega (arith, is.sized) in

@@ -96,7 +96,7 @@ module _ (V : ℕ → ℕ) (H : List Event) where
   unfolding writer_before
   before_suc n i = last_place_suc n (λ q. writes (event_at H q) i)
 
-  -- in the whole history an item has what its last writer left
+  -- in the whole history an item has the value that its last writer left
   seen_left : (n i : ℕ) → prefix_value n i ≡ left_value i (writer_before H n i)
   unfolding run_value
   seen_left zero i = ap (left_value i) (sym (writer_before_none H i))
@@ -135,7 +135,7 @@ module _ (V : ℕ → ℕ) (H : List Event) where
             (λ hit. absurd (both_ways (S n) e (and_parts _ _ hit).0))
             (λ miss. rest i)
 
--- What runs alone is closed.
+-- The set of commits that run alone is closed.
 alone_closed : (H : List Event) (R : List ReadAt) → IsClosed H (runs_alone H R)
 unfolding descends_from
 alone_closed H R p w h r =

@@ -23,7 +23,7 @@ at i c = record { item = i; cycle = c }
 abbrev pub heard_of_two : Policy → List Event → ℕ → ℕ → HeardRead
 heard_of_two policy H i c = record { item = i; cycle = c; entries = policy_entries policy 2 H c i }
 
--- The same of a read, over three items.
+-- The same for a read, over three items.
 abbrev heard_at : Policy → List Event → ReadAt → HeardRead
 heard_at policy H r = record { item = r.item; cycle = r.cycle; entries = policy_entries policy 3 H r.cycle r.item }
 
@@ -72,10 +72,10 @@ OfTwo policy H r s c answer =
     × (clash_by_entries policy (heard_at policy H r ∷ heard_at policy H s ∷ []) (heard_at policy H (at 2 c)) ≡ answer)
 
 pub record Consistency : Type 0 where
-  -- item 1 of cycle 2 descends from a write of item 0 that the first read has not seen
+  -- item 1 of cycle 2 descends from a write of item 0 that the first read hasn't seen
   chain : consistent chain_history (at 0 1 ∷ at 1 2 ∷ []) ≡ false
   one_cycle : consistent chain_history (at 0 2 ∷ at 1 2 ∷ []) ≡ true
-  -- no single cycle has both, and yet they are consistent
+  -- no single cycle has both, but they are consistent
   no_cycle : consistent apart (at 0 1 ∷ at 1 2 ∷ []) ≡ true
   blind : consistent then_blind (at 0 1 ∷ at 1 3 ∷ []) ≡ true
   -- what runs alone for item 2 of cycle 2: the first two commits
@@ -94,31 +94,31 @@ pub record Clashes : Type 0 where
   f_matrix_one : Both FMatrix one_written None
   datacycle_one : Both Datacycle one_written with_first
   r_matrix_one : Both RMatrix one_written None
-  -- an older read comes late under R-Matrix alone, and Datacycle names what it holds of the newest cycle
+  -- only under R-Matrix does an older read come late; Datacycle names what it holds of the newest cycle
   late : is_late RMatrix (at 0 2 ∷ []) (at 1 1) ≡ true
   in_time : is_late FMatrix (at 0 2 ∷ []) (at 1 1) ≡ false
   older : clash_by_history Datacycle apart (at 0 2 ∷ []) (at 1 1) ≡ Some (record { item = 0; cycle = 2 })
-  -- the least item number is named, whatever the order of reading
+  -- the least item number is named, in any order of reading
   least_named : clash_by_history Datacycle apart (at 1 1 ∷ at 0 1 ∷ []) (at 2 2) ≡ with_first
-  -- of two stale held reads the one of least item is named, and neither the first that was read nor the last
+  -- of two stale held reads the one with the least item number is named, even if it was read last
   least_of_two : (OfTwo Datacycle all_written (at 1 1) (at 0 1) 2 with_first × OfTwo Datacycle all_written (at 0 1) (at 1 1) 2 with_first)
       × (OfTwo RMatrix all_written (at 1 1) (at 0 1) 2 with_first × OfTwo RMatrix all_written (at 0 1) (at 1 1) 2 with_first)
-  -- a held read of lesser item that doesn't clash isn't named: item 0 isn't written, item 1 is
+  -- a held read with a lesser item number that doesn't clash isn't named: item 0 isn't written, item 1 is
   not_the_least_held : OfTwo FMatrix one_then_two (at 0 1) (at 1 1) 2 (Some (record { item = 1; cycle = 1 }))
       × OfTwo Datacycle one_then_two (at 0 1) (at 1 1) 2 (Some (record { item = 1; cycle = 1 }))
       × OfTwo RMatrix one_then_two (at 0 1) (at 1 1) 2 (Some (record { item = 1; cycle = 1 }))
-  -- Datacycle names, for a read of an older cycle, a held read of the newest one, and not item 0 of cycle 1
+  -- for a read of an older cycle, Datacycle names a held read of the newest cycle, and not item 0 of cycle 1
   of_the_newest : OfTwo Datacycle two_later (at 0 1) (at 1 3) 2 (Some (record { item = 1; cycle = 3 }))
-  -- of two held reads of the newest cycle it names the one of least item, whatever the order of reading
+  -- of two held reads of the newest cycle it names the one with the least item number, in any order of reading
   least_of_the_newest : OfTwo Datacycle two_later (at 1 3) (at 0 3) 2 (Some (record { item = 0; cycle = 3 }))
       × OfTwo Datacycle two_later (at 0 3) (at 1 3) 2 (Some (record { item = 0; cycle = 3 }))
-  -- it asks the entries of the first held read of that cycle
+  -- it uses the entries of the first held read of that cycle
   first_of_the_newest : (clash_by_entries Datacycle (of_four 1 3 (0 ∷ 0 ∷ 2 ∷ 0 ∷ []) ∷ of_four 0 3 (0 ∷ 0 ∷ 0 ∷ 0 ∷ []) ∷ []) (of_four 2 2 (0 ∷ 0 ∷ 0 ∷ 0 ∷ [])) ≡ Some (record { item = 0; cycle = 3 }))
       × (clash_by_entries Datacycle (of_four 0 3 (0 ∷ 0 ∷ 0 ∷ 0 ∷ []) ∷ of_four 1 3 (0 ∷ 0 ∷ 2 ∷ 0 ∷ []) ∷ []) (of_four 2 2 (0 ∷ 0 ∷ 0 ∷ 0 ∷ [])) ≡ None)
       × (clash_by_entries Datacycle (of_four 0 3 (0 ∷ 0 ∷ 2 ∷ 0 ∷ []) ∷ of_four 1 3 (0 ∷ 0 ∷ 0 ∷ 0 ∷ []) ∷ []) (of_four 2 2 (0 ∷ 0 ∷ 0 ∷ 0 ∷ [])) ≡ Some (record { item = 0; cycle = 3 }))
   -- R-Matrix names the held read that is stale at the new cycle: item 0, which was written, and not item 1
   stale_one : OfTwo RMatrix ends_written (at 0 1) (at 1 2) 3 with_first
-  -- the reads of item 0 and 1 share the first cycle, since item 1 stays there
+  -- the reads of items 0 and 1 share the first cycle, since item 1 isn't written
   shares : current_cycle one_written (at 0 1 ∷ at 1 2 ∷ []) ≡ 1
 
 pub clashes : Clashes

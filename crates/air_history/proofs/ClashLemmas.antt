@@ -1,4 +1,4 @@
--- The clash by the entries is the clash by the history, where the entries answer as the history's.
+-- The clash by the entries is the clash by the history, if the entries answer as the history's.
 use Rattle.std.proofs.Common.{◌≡◌, ℕ, ◌<◌, ◌≤◌, Bool, true, false, cond, not, ◌||◌, ◌==◌, nat_le, Option, None, List, [], ◌∷◌, ◌++◌, length, map, get_or, All, refl, sym, ◌∙◌, ap, subst, inl, arith}
 use Rattle.std.specs.Prelude.{AllPairs}
 use Rattle.std.proofs.lemmas.Bool.{leb-true, leb-false, both_ways, eqb-true, eq-eqb}
@@ -41,7 +41,7 @@ newest_there R pos none =
     omega arith) in
     omega arith
 
--- Where cycles never fall, no read of a list is newer than one that follows.
+-- If cycles never fall, no read of a list is newer than one that follows.
 pub never_later : (S : List ReadAt) (y : ReadAt) → AllPairs (λ r s. r.cycle ≤ s.cycle) (S ++ y ∷ []) → All (λ r. r.cycle ≤ y.cycle) S
 never_later S y order k d l =
     let at : get_or (S ++ y ∷ []) k d ≡ get_or S k d = get_or_append_left S (y ∷ []) d k l in
@@ -85,12 +85,12 @@ f_matrix n H R x pos item are = clash_heard (λ s. not (consistent H (s ∷ read
     ∙ ap (λ b. b || nat_le x.cycle (entry_at H r.cycle r.item x.item)) (sym (h.by_new r.item h.within ∙ ap (nat_le r.cycle) (aired_column n H x r.item h.within)))
     ∙ ap (λ b. nat_le r.cycle (entry_of x r.item) || b) (sym (h.by_held x.item item ∙ ap (nat_le x.cycle) (aired_column n H r x.item item))))
 
--- A held read is stale at the new cycle exactly if the new vector says so.
+-- A held read is stale at the new cycle if and only if the new vector says so.
 stale_told : (n : ℕ) (H : List Event) (r x : HeardRead) → 1 ≤ r.cycle → r.cycle ≤ x.cycle → r.item < n →
     nat_le r.cycle (entry_of x r.item) ≡ nat_le r.cycle (get_or (vector n (front H x.cycle)) r.item 0) → stale H (read_at r) x.cycle ≡ nat_le r.cycle (entry_of x r.item)
 stale_told n H r x pos le within told = stale_is H (read_at r) x.cycle pos le ∙ ap (nat_le r.cycle) (sym (vector_at n H x.cycle r.item within)) ∙ sym told
 
--- A choice by a test is the other way round by its opposite.
+-- A choice by a test is the choice by the opposite test with the two answers exchanged.
 turned : (s b : Bool) (z : Option Clash) → not s ≡ b → cond s None z ≡ cond b z None
 turned true true z e = cc
 turned true false z e = refl
@@ -152,7 +152,7 @@ pub clash_told : (scheme : Scheme) (n : ℕ) (H : List Event) (R : List HeardRea
 clash_told scheme n H R x are order =
     by_policy scheme.policy n H R x (new_cycle scheme n H R x are) (new_within scheme n H R x are) (answered scheme n H R x are) order
 
--- The same of entries in full.
+-- The same for entries in full.
 pub clash : (scheme : Scheme) (n : ℕ) (H : List Event) (R : List HeardRead) (x : HeardRead) →
     All (HasAiredEntries scheme n H) R → HasAiredEntries scheme n H x → IsAllowed scheme.policy (map read_at R ++ read_at x ∷ []) →
     clash_by_history scheme.policy H (map read_at R) (read_at x) ≡ clash_by_entries scheme.policy R x

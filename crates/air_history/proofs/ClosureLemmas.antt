@@ -25,7 +25,7 @@ through_to G p q k w l e h =
     descends_is G p q ∙ or_right (q == p) _ (list_any_at (λ item. place_and (writer_before G p item) (λ w. descends G w q)) (reads (event_at G p)) k 0 l
     (place_from (writer_before G p (get_or (reads (event_at G p)) k 0)) (λ w. descends G w q) w e h))
 
--- With each place the descent holds each writer that it read.
+-- With each of its places the descent holds each writer that this place read.
 closed_in : (n : ℕ) (G : List Event) (p q w : ℕ) → p < n → descends G p q ≡ true → ReadsFrom G q w → descends G p w ≡ true
 closed_in zero G p q w l e f = absurd (omega arith)
 closed_in (suc n) G p q w l e f = elim (descends_cases G p q e) as (λ _. descends G p w ≡ true) [

@@ -69,7 +69,7 @@ writes_fit H n p e all l is = by e (subst (ItemsFit n) (sym is) (all p e l))
 unfoldable scan_entry : List Event → ℕ → ℕ → ℕ → ℕ
 scan_entry H w p i = greatest p (λ q. descends H w q && writes (event_at H q) i) (cycle_at H)
 
--- Where the marks are the descent of w.
+-- If the marks are the descent of w.
 marked_scan : (H : List Event) (marks : List Bool) (w i : ℕ) → marks ≡ map (descends H w) (range_with_len 0 (length H)) → marked_entry H marks (length H) i ≡ scan_entry H w (length H) i
 unfolding scan_entry
 marked_scan H marks w i e = greatest_same (length H) _ _ (cycle_at H) (cycle_at H)
@@ -83,7 +83,7 @@ scan_suc H w p i = ap (λ m. greatest m (λ q. descends H w q && writes (event_a
 scan_kept : (H : List Event) (w p i : ℕ) → (descends H w p && writes (event_at H p) i) ≡ false → scan_entry H w (p + 1) i ≡ scan_entry H w p i
 scan_kept H w p i h = scan_suc H w p i ∙ cond-false _ _ _ h
 
--- Beyond the writer nothing is counted.
+-- Places after the writer count nothing.
 past : (H : List Event) (w n k i : ℕ) → w < n → scan_entry H w (n + k) i ≡ scan_entry H w n i
 past H w n zero i l = ap (λ m. scan_entry H w m i) (let e : n + zero ≡ n = omega arith in e)
 past H w n (suc k) i l =
@@ -118,7 +118,7 @@ pub column_zeros : (H : List Event) (c item n : ℕ) (out : List ℕ) → writer
     ((i : ℕ) → i < n → get_or out i 0 ≡ 0) → out ≡ column n (front H c) item
 column_zeros H c item n out e len all = fill_by_all (column_entry (front H c) item) out n 0 len (λ i l. all i l ∙ sym (no_writer H c item i e))
 
--- The last writer of a front stands in the history.
+-- The last writer of a front is in the history.
 pub writer_inside : (H : List Event) (c item w : ℕ) → writer (front H c) item ≡ Some w → w < length H
 unfolding origin
 writer_inside H c item w e =

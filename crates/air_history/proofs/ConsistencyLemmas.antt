@@ -1,4 +1,4 @@
--- Reads are consistent exactly if each column's entry of each read item is below that read's cycle.
+-- Reads are consistent if and only if each column's entry of each read item is below that read's cycle.
 use Rattle.std.proofs.Common.{◌≡◌, ℕ, zero, suc, ◌<◌, ◌≤◌, true, ◌&&◌, ◌⊎◌, Option, Some, None, List, [], ◌∷◌, ◌++◌, length, get_or, All, ◌↔◌, refl, sym, subst, inl, inr, arith, Decides, ap}
 use Rattle.std.specs.Prelude.{AllPairs}
 use Rattle.std.proofs.lemmas.Bool.{cases_lt, cases_order, both_ways, and_parts, and_from, false_from_ne_true, false≢true, eqb-true, eq-eqb}
@@ -23,7 +23,7 @@ same_place_decides None (Some q) = (λ h. absurd (false≢true h), λ e. cc)
 same_place_decides (Some p) None = (λ h. absurd (false≢true h), λ e. cc)
 same_place_decides (Some p) (Some q) = (λ h. ap Some (eqb-true p q h), λ e. eq-eqb p q (let h : p ≡ q = cc in h))
 
--- Each read's origin is the last that runs alone and writes its item.
+-- Each read's origin is the last commit that runs alone and writes its item.
 abbrev pub OriginsLast : List Event → List ReadAt → Type 0
 OriginsLast H R = All (λ r. last_alone H R r.item ≡ origin H r) R
 
@@ -32,12 +32,12 @@ unfolding consistent
 consistent_decides H R = Decides-by_and (λ r. same_place (last_alone H R r.item) (origin H r)) (λ r. last_alone H R r.item ≡ origin H r) (list_all (λ r. same_place (last_alone H R r.item) (origin H r)))
     (λ r. same_place_decides (last_alone H R r.item) (origin H r)) refl (λ _ _. refl) R
 
--- Consistent reads' origins are the last.
+-- The origins of consistent reads are these.
 pub origins_last : (H : List Event) (R : List ReadAt) → IsConsistent H R → OriginsLast H R
 origins_last H R h = (consistent_decides H R).0 h
 
--- Below a positive c, the entry of i in a read's column is below c exactly if each commit from which
--- the read descends and that writes i has a cycle below c.
+-- For a positive c, the entry of i in a read's column is below c if and only if each commit that writes i, and from which the
+-- read descends, has a cycle below c.
 pub entry_below : (H : List Event) (s : ReadAt) (i c : ℕ) → 1 ≤ c →
     ((p : ℕ) → descends_from H s p ≡ true → writes (event_at H p) i ≡ true → cycle_at H p < c) → entry_at H s.cycle s.item i < c
 entry_below H s i c pos h = subst (λ x. x < c) (sym (entry_whole H s i))
@@ -78,7 +78,7 @@ last_alone_from : (H : List Event) (R : List ReadAt) (i : ℕ) (o : Option ℕ) 
 unfolding last_alone
 last_alone_from H R i o h = last_place_from (length H) _ o h
 
--- Where the last writer among those that run alone is r's origin, each writer of r's item among them is in r's front.
+-- If the last writer among those that run alone is r's origin, each writer of r's item among them is in r's front.
 clear_at : (H : List Event) (R : List ReadAt) (r : ReadAt) (p : ℕ) → (o : Option ℕ) → last_alone H R r.item ≡ o → origin H r ≡ o →
     runs_alone H R p ≡ true → writes (event_at H p) r.item ≡ true → cycle_at H p < r.cycle
 clear_at H R r p None e f a w =
@@ -130,7 +130,7 @@ consistent_from_clear H R h = (consistent_decides H R).1 (λ k d lk.
 
 -- ---- two reads, and one more read
 
--- Neither read's column has the other's item at its cycle or later.
+-- Neither read's column has the other's item at the other's cycle or later.
 abbrev pub Agree : List Event → ReadAt → ReadAt → Type 0
 Agree H r s = (entry_at H s.cycle s.item r.item < r.cycle) × (entry_at H r.cycle r.item s.item < s.cycle)
 
@@ -148,7 +148,7 @@ reads_of_two r s ir is zero d l = ir
 reads_of_two r s ir is (suc zero) d l = is
 reads_of_two r s ir is (suc (suc k)) d l = absurd (omega arith)
 
--- Two reads are consistent exactly if they agree.
+-- Two reads are consistent if and only if they agree.
 pub pair_agree : (H : List Event) (r s : ReadAt) → IsRead r → IsRead s → IsConsistent H (r ∷ s ∷ []) ↔ Agree H r s
 pair_agree H r s ir is = (
   λ h. let clear = clear_from_consistent H (r ∷ s ∷ []) (reads_of_two r s ir is) h in
@@ -156,7 +156,7 @@ pair_agree H r s ir is = (
   λ a. consistent_from_clear H (r ∷ s ∷ []) (clear_of_two H r s ir is a),
 )
 
--- And inconsistent exactly if an entry isn't below the cycle, in one direction or the other.
+-- Two reads are inconsistent if and only if an entry isn't below the cycle, in one direction or the other.
 pub pair_apart : (H : List Event) (r s : ReadAt) → IsRead r → IsRead s →
     (IsConsistent H (r ∷ s ∷ []) → ⊥) ↔ ((r.cycle ≤ entry_at H s.cycle s.item r.item) ⊎ (s.cycle ≤ entry_at H r.cycle r.item s.item))
 pair_apart H r s ir is = (
@@ -190,7 +190,7 @@ whole H R are = (
 
 -- ---- one more read
 
--- An element of a list with one more: of the list, or the new one.
+-- An element of a list with one more is in the list, or is the new one.
 pushed_cases : {X : Type 0} (R : List X) (x d : X) (k : ℕ) → k < length (R ++ x ∷ []) →
     ((k < length R) × (get_or (R ++ x ∷ []) k d ≡ get_or R k d)) ⊎ (get_or (R ++ x ∷ []) k d ≡ x)
 pushed_cases {X} R x d k h = elim (cases_lt k (length R)) as (λ _. ((k < length R) × (get_or (R ++ x ∷ []) k d ≡ get_or R k d)) ⊎ (get_or (R ++ x ∷ []) k d ≡ x)) [
@@ -230,7 +230,7 @@ agree_of_more H R x clear k d l =
       below_at H (get_or (R ++ x ∷ []) (length R) d) x (get_or (R ++ x ∷ []) k d) (get_or R k d) (sym f) (sym e) (clear (length R) k d last inside),
     )
 
--- One more read keeps consistent reads so exactly if it agrees with each.
+-- One more read keeps consistent reads consistent if and only if it agrees with each of them.
 pub more_agree : (H : List Event) (R : List ReadAt) (x : ReadAt) → All IsRead R → IsRead x → IsConsistent H R →
     IsConsistent H (R ++ x ∷ []) ↔ All (λ r. Agree H r x) R
 more_agree H R x are is held = (

@@ -27,7 +27,7 @@ item_one cycle entries = record { item = 1; cycle = cycle; entries = entries }
 pub record New : Type 0 where
   -- item 1 isn't held, and its two entries are below its cycle
   new : IsNew one_held (item_one 1 (0 ∷ 0 ∷ []))
-  -- an item that is held, three entries, and an entry of the read's own cycle aren't a new read's
+  -- a held item, three entries, or an entry of the read's own cycle are not those of a new read
   held_item : IsNew one_held (record { item = 0; cycle = 3; entries = 0 ∷ 0 ∷ [] }) → ⊥
   too_many : IsNew one_held (item_one 1 (0 ∷ 0 ∷ 0 ∷ [])) → ⊥
   entry_of_its_cycle : IsNew one_held (item_one 1 (1 ∷ 0 ∷ [])) → ⊥
@@ -36,10 +36,10 @@ pub record New : Type 0 where
   -- cycle 2 comes in order, and cycle 1 doesn't
   in_order : ComesInOrder one_held (item_one 2 (0 ∷ 0 ∷ []))
   out_of_order : ComesInOrder one_held (item_one 1 (0 ∷ 0 ∷ [])) → ⊥
-  -- it is the last held cycle that counts, and neither the first nor the newest: after 1 and 3 cycle 2 isn't in order, after 3 and 1 it is
+  -- only the last held cycle counts: after 1 and 3 cycle 2 isn't in order, after 3 and 1 it is
   after_the_first : ComesInOrder (two_held 1 3) item_two → ⊥
   before_the_newest : ComesInOrder (two_held 3 1) item_two
-  -- item 1 has one origin in both cycles, and item 0 another one in cycle 2
+  -- item 1 has one origin in both cycles, and item 0 has another in cycle 2
   one_origin : (same_origin one_written 1 1 2 ≡ true) × (same_origin one_written 0 1 2 ≡ false)
 
 pub new : New

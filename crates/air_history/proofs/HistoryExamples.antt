@@ -13,7 +13,7 @@ use Rattle.air_history.specs.Columns.{column_entry, vector_entry, column, vector
 use Rattle.air_history.specs.Tables.{value_on_base, write_of, value_after, table, table_list}
 use Rattle.air_history.specs.Boards.{reply_of, board_of, frame_of}
 
--- A write of a constant, of a base and an amount more, of a base less an amount.
+-- A write of a constant, a write of a base plus an amount, and one of a base minus an amount.
 abbrev pub set_to : ℕ → ℕ → Write
 set_to i v = record { item = i; base = None; minus = false; amount = v }
 
@@ -27,7 +27,7 @@ take_from i b v = record { item = i; base = Some b; minus = true; amount = v }
 abbrev pub commit : ℕ → List ℕ → Write → Event
 commit seq reads write = Commit 0 seq (record { reads = reads; writes = write ∷ [] })
 
--- Item 0 becomes 11, item 2 that and 1, item 1 that and 1; all in cycle 1.
+-- Item 0 becomes 11, item 2 becomes item 0 plus 1, and item 1 becomes item 2 plus 1; all in cycle 1.
 abbrev pub chain_history : List Event
 chain_history = Start ∷ commit 0 [] (set_to 0 11) ∷ commit 1 (0 ∷ []) (add_to 2 0 1) ∷ commit 2 (2 ∷ []) (add_to 1 2 1) ∷ Start ∷ []
 
@@ -43,12 +43,12 @@ before_all = commit 0 [] (set_to 0 11) ∷ commit 1 (0 ∷ []) (add_to 2 0 1) �
 abbrev counter : List Event
 counter = Start ∷ commit 0 (0 ∷ []) (add_to 0 0 1) ∷ Start ∷ commit 1 (0 ∷ []) (add_to 0 0 1) ∷ Start ∷ []
 
--- The items 0 and 1 change places, after each was written.
+-- The items 0 and 1 exchange their values, after each was written.
 abbrev exchange_history : List Event
 exchange_history = Start ∷ commit 0 [] (set_to 0 7) ∷ commit 1 [] (set_to 1 8)
     ∷ Commit 0 2 (record { reads = 0 ∷ 1 ∷ []; writes = add_to 0 1 0 ∷ add_to 1 0 0 ∷ [] }) ∷ []
 
--- So many writes, each of an item of its own.
+-- n writes, each of its own item.
 abbrev writes_to : ℕ → List Write
 writes_to n = map (λ i. set_to i 1) (range_with_len 0 n)
 
@@ -89,12 +89,12 @@ pub record Places : Type 0 where
   first_cycle : cycle_at chain_history 0 ≡ 0
   second_cycle : cycle_at chain_history 4 ≡ 1
   no_front : front chain_history 0 ≡ []
-  -- a commit before the first start is in the front of cycle 1, and not in that of cycle 0
+  -- a commit before the first start is in the front of cycle 1, but not in that of cycle 0
   nothing_before_all : front (commit 0 [] (set_to 0 11) ∷ Start ∷ Start ∷ []) 0 ≡ []
   before_the_first : front (commit 0 [] (set_to 0 11) ∷ Start ∷ Start ∷ []) 1 ≡ commit 0 [] (set_to 0 11) ∷ []
   front_of_one : front chain_history 1 ≡ []
   front_of_two : front chain_history 2 ≡ Start ∷ commit 0 [] (set_to 0 11) ∷ commit 1 (0 ∷ []) (add_to 2 0 1) ∷ commit 2 (2 ∷ []) (add_to 1 2 1) ∷ []
-  -- what comes after the last start, or all before the first
+  -- what comes after the last start, or all if there is no start
   since_the_last : since_start (chain_history ++ commit 0 [] (set_to 0 5) ∷ []) ≡ commit 0 [] (set_to 0 5) ∷ []
   since_none : since_start (commit 0 [] (set_to 0 11) ∷ commit 0 [] (set_to 1 12) ∷ []) ≡ commit 0 [] (set_to 0 11) ∷ commit 0 [] (set_to 1 12) ∷ []
   nothing_since : since_start chain_history ≡ []
@@ -108,14 +108,14 @@ places = record { since_the_last = refl; since_none = refl; nothing_since = refl
 pub record Descents : Type 0 where
   -- the writer of item 1 descends from that of item 0 through that of item 2
   through_two : descends chain_history 3 1 ≡ true
-  -- and not from the start between
+  -- it doesn't descend from the start between them
   not_a_start : descends chain_history 3 0 ≡ false
-  -- the blind write descends from itself alone
+  -- the blind write descends only from itself
   cut : descends then_blind 5 3 ≡ false
   itself : descends then_blind 5 5 ≡ true
-  -- an item that is read and written carries the descent on
+  -- an update that reads and writes an item continues the descent
   counts_on : descends counter 3 1 ≡ true
-  -- what reads two items descends from both writers
+  -- a commit that reads two items descends from both writers
   from_both : (descends exchange_history 3 1 ≡ true) × (descends exchange_history 3 2 ≡ true)
 
 pub descents : Descents
@@ -142,7 +142,7 @@ pub record Values : Type 0 where
   in_cycle_two : table_list tens (front chain_history 2) ≡ 11 ∷ 13 ∷ 12 ∷ []
   wraps_up : table_list ((2 ^ 64 - 1) ∷ []) (commit 0 (0 ∷ []) (add_to 0 0 1) ∷ []) ≡ 0 ∷ []
   wraps_down : table_list (0 ∷ []) (commit 0 (0 ∷ []) (take_from 0 0 1) ∷ []) ≡ (2 ^ 64 - 1) ∷ []
-  -- two items change places, since all written values come from the values before
+  -- two items exchange their values, since all written values are computed from the values before
   swapped : table_list (7 ∷ 8 ∷ []) (Commit 0 0 (record { reads = 0 ∷ 1 ∷ []; writes = add_to 0 1 0 ∷ add_to 1 0 0 ∷ [] }) ∷ []) ≡ 8 ∷ 7 ∷ []
 
 pub values : Values
@@ -150,9 +150,9 @@ unfolding table value_after write_of value_on_base front
 values = record { in_cycle_one = refl; in_cycle_two = refl; wraps_up = refl; wraps_down = refl; swapped = refl }
 
 pub record Boards : Type 0 where
-  -- a reply's read values are those before the commit, its written ones those after it
+  -- a reply's read values are those before the commit, its written values those after it
   reply_raised : reply_of (10 ∷ []) counter 3 ≡ record { number = 3; cycle = 2; read = 11 ∷ []; written = 12 ∷ [] }
-  -- and not those at the end of the history: item 0 is raised again later
+  -- they are not those at the end of the history: item 0 is raised again later
   reply_before_the_end : reply_of (10 ∷ []) counter 1 ≡ record { number = 1; cycle = 1; read = 10 ∷ []; written = 11 ∷ [] }
   reply_exchanged : reply_of (0 ∷ 0 ∷ []) exchange_history 3 ≡ record { number = 3; cycle = 1; read = 7 ∷ 8 ∷ []; written = 8 ∷ 7 ∷ [] }
   -- the total of a frame wraps

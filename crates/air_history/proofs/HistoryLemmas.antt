@@ -23,7 +23,7 @@ start_writes_none : (e : Event) (i : ℕ) → e ≡ Start → writes e i ≡ fal
 unfolding writes
 start_writes_none e i h = rw h refl
 
--- What writes stands in the list.
+-- A commit that writes is in the list.
 pub writes_within : (H : List Event) (p i : ℕ) → writes (event_at H p) i ≡ true → p < length H
 writes_within H p i h = elim (cases_lt p (length H)) as (λ _. p < length H) [
   | inl l ↦ l
@@ -53,7 +53,7 @@ front_cycle (Start ∷ H) (suc (suc c)) (suc p) h = let rest : cycle_at H p < su
 front_cycle (Commit by seq update ∷ H) (suc c) zero h = omega (arith, cycle_at_zero (Commit by seq update ∷ H))
 front_cycle (Commit by seq update ∷ H) (suc c) (suc p) h = let rest : cycle_at H p < suc c = front_cycle H (suc c) p (omega arith) in omega (arith, cycle_at_commit H by seq update p)
 
--- And every commit whose cycle is below c is in the front of c.
+-- Every commit whose cycle is below c is in the front of c.
 pub front_holds : (H : List Event) (c p : ℕ) → p < length H → is_start (event_at H p) ≡ false → cycle_at H p < c → p < length (front H c)
 unfolding front is_start
 front_holds H zero p l s h = absurd (omega arith)
@@ -102,7 +102,7 @@ writer_before_is G p i = last_place_is p (λ q. writes (event_at G q) i)
 pub writer_before_some : (G : List Event) (p i w : ℕ) → writer_before G p i ≡ Some w → IsLast p (λ q. writes (event_at G q) i) (Some w)
 writer_before_some G p i w e = subst (IsLast p (λ q. writes (event_at G q) i)) e (writer_before_is G p i)
 
--- The descent of p looks at the events up to p alone.
+-- The descent of p depends only on the events up to p.
 descends_in_same : (n : ℕ) (G H : List Event) (p q : ℕ) → SameBelow (suc p) G H → descends_in n G p q ≡ descends_in n H p q
 unfolding descends_in
 descends_in_same zero G H p q h = refl
@@ -173,11 +173,11 @@ descends_cases G p q e = elim (or_cases (q == p) _ (sym (descends_is G p q) ∙ 
 pub descends_self : (G : List Event) (p : ℕ) → descends G p p ≡ true
 descends_self G p = descends_is G p p ∙ or_left (p == p) _ (eq-eqb p p refl)
 
--- The writer of a read item stands before the place that reads it.
+-- The writer of a read item is at a place before the one that reads it.
 pub through_lower : (G : List Event) (p q : ℕ) (r : ThroughRead G p q) → r.place < p
 through_lower G p q r = (writer_before_some G p (get_or (reads (event_at G p)) r.nth 0) r.place r.wrote).0
 
--- A descent goes back.
+-- A descent contains no later places.
 back : (n : ℕ) (G : List Event) (p q : ℕ) → p < n → descends G p q ≡ true → q ≤ p
 back zero G p q l e = absurd (omega arith)
 back (suc n) G p q l e = elim (descends_cases G p q e) as (λ _. q ≤ p) [
@@ -188,12 +188,12 @@ back (suc n) G p q l e = elim (descends_cases G p q e) as (λ _. q ≤ p) [
 pub descends_le : (G : List Event) (p q : ℕ) → descends G p q ≡ true → q ≤ p
 descends_le G p q e = back (suc p) G p q (omega arith) e
 
--- The descent of p looks at the events up to p alone.
+-- The descent of p depends only on the events up to p.
 pub descends_same : (G H : List Event) (p q : ℕ) → SameBelow (suc p) G H → descends G p q ≡ descends H p q
 unfolding descends
 descends_same G H p q h = descends_in_same p G H p q h
 
--- The cycles of places only rise.
+-- The cycles of places never fall.
 pub cycle_mono : (G : List Event) (p q : ℕ) → p ≤ q → cycle_at G p ≤ cycle_at G q
 unfolding cycle_at
 cycle_mono G p q h =

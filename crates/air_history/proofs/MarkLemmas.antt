@@ -1,5 +1,5 @@
--- Marks that grow backwards to a descent: each marked place is in the descent of the start, and what a marked place reads is
--- found, its last writer marked, or is still looked for.
+-- Marks that are set backwards until they are a descent. Each marked place is in the descent of the start. Each item that a
+-- marked place reads is found, with its last writer marked, or is still looked for.
 use Rattle.std.proofs.Common.{◌≡◌, ℕ, ◌+◌, ◌<◌, ◌≤◌, Bool, true, false, not, ◌&&◌, ◌||◌, ◌==◌, ◌⊎◌, Option, Some, None, List, ◌++◌, take, drop, length, get_or, set, replicate, map, refl, sym, ◌∙◌, ap, subst, inl, inr, arith, IsTrue}
 use Rattle.std.specs.List.{range_with_len, list_any}
 use Rattle.std.proofs.lemmas.Bool.{cases_Bool, cases_lt, cases_eq, both_ways, false≢true, eqb-true, eq-eqb, or_cases, or_left, or_right, and_parts, and_from, false_from_ne_true}
@@ -47,11 +47,11 @@ pub record Marking (H : List Event) (place at : ℕ) (marks sought : List Bool) 
   pub just : (item : ℕ) → IsTrue (get_or sought item false) → IsSought H at marks item
   pub settled : (p n : ℕ) → IsTrue (get_or marks p false) → n < length (reads (event_at H p)) → IsSettled H at marks sought p (get_or (reads (event_at H p)) n 0)
 
--- The items looked for after those that an event reads are looked for too.
+-- After an event's reads, the items that it reads are looked for too.
 abbrev pub Seeks : Event → List Bool → List Bool → Type 0
 Seeks e old new = (i : ℕ) → get_or new i false ≡ (get_or old i false || list_any (λ r. r == i) (reads e))
 
--- The items looked for after those that an event writes are looked for no longer.
+-- After an event's writes, the items that it writes are no longer looked for.
 abbrev pub Forgets : Event → List Bool → List Bool → Type 0
 Forgets e old new = (i : ℕ) → get_or new i false ≡ (get_or old i false && not (list_any (λ w. w.item == i) (writes_of e)))
 
@@ -67,21 +67,21 @@ writes_are Start item = refl
 no_write : Write
 no_write = record { item = 0; base = None; minus = false; amount = 0 }
 
--- What writes some item looked for writes this one.
+-- If the event writes some item that is looked for, this is one such item.
 written_one : (e : Event) (sought : List Bool) → writes_some e sought ≡ true → (item : ℕ) × IsTrue (get_or sought item false) × (writes e item ≡ true)
 written_one e sought h =
     let f = any_at (λ w. get_or sought w.item false) (writes_of e) no_write h in
     let item : ℕ = (get_or (writes_of e) f.0 no_write).item in
     (item, f.2, writes_are e item ∙ list_any_at (λ w. w.item == item) (writes_of e) f.0 no_write f.1 (eq-eqb item item refl))
 
--- What writes no item looked for does not write this one.
+-- If the event writes no item that is looked for, it doesn't write this one.
 not_written : (e : Event) (sought : List Bool) (item : ℕ) → writes_some e sought ≡ false → IsTrue (get_or sought item false) → writes e item ≡ false
 not_written e sought item miss looked = false_from_ne_true (writes e item) (λ h.
     let f = any_at (λ w. w.item == item) (writes_of e) no_write (sym (writes_are e item) ∙ h) in
     let same : (get_or (writes_of e) f.0 no_write).item ≡ item = eqb-true _ item f.2 in
     both_ways (writes_some e sought) miss (list_any_at (λ w. get_or sought w.item false) (writes_of e) f.0 no_write f.1 (ap (λ i. get_or sought i false) same ∙ looked)))
 
--- What is read is looked for.
+-- Each item that is read is looked for.
 read_sought : (e : Event) (n : ℕ) → n < length (reads e) → list_any (λ r. r == get_or (reads e) n 0) (reads e) ≡ true
 read_sought e n l = list_any_at (λ r. r == get_or (reads e) n 0) (reads e) n 0 l (eq-eqb (get_or (reads e) n 0) _ refl)
 
@@ -123,7 +123,7 @@ marking_none H place marks clear sought none l e seeks = subst (λ m. Marking H 
     start : IsTrue (get_or (set (replicate (length H) false) place true) place false)
     start = get_or-set_same (replicate (length H) false) place true false (omega (arith, length-replicate (length H) false))
 
--- An event that writes nothing looked for changes nothing.
+-- An event that writes no item looked for changes nothing.
 pub marking_skip : (H : List Event) (place at : ℕ) (marks sought : List Bool) → writes_some (event_at H at) sought ≡ false → Marking H place (at + 1) marks sought → Marking H place at marks sought
 marking_skip H place at marks sought miss m = record {
   sized = m.sized;
@@ -203,7 +203,7 @@ marking_more H place at old mid new marks within hit forgets seeks m = record {
       same = o.same ∙ before_more H item at false w;
     })
 
--- Before the first event nothing is found any more: the marks are the descent.
+-- After the first event nothing more can be found: the marks are the descent.
 pub marking_all : (H : List Event) (place : ℕ) (marks sought : List Bool) → Marking H place 0 marks sought → marks ≡ map (descends H place) (range_with_len 0 (length H))
 marking_all H place marks sought m = fill_by_all (descends H place) marks (length H) false m.sized (λ k l. same_bool (get_or marks k false) (descends H place k) (m.sound k)
     ((closure H place).least (λ k. get_or marks k false) m.first (λ p w h r. closed p w h r) k))
@@ -230,7 +230,7 @@ marking_all H place marks sought m = fill_by_all (descends H place) marks (lengt
 pub written_back : (xs ys : List Bool) (n : ℕ) → length xs ≡ n → take n (xs ++ drop (length xs) ys) ≡ xs
 written_back xs ys n e = take_at xs (drop (length xs) ys) n e
 
--- What is told of the lists that a call was given is told of the event's.
+-- What is known of the lists that a call was given holds of the event's lists.
 pub seeks_of : (H : List Event) (p : ℕ) (e : Event) (rs : List ℕ) (given old new : List Bool) → p < length H → e ≡ get_or H p e → rs ≡ reads e → given ≡ old →
     ((i : ℕ) → get_or new i false ≡ (get_or given i false || list_any (λ r. r == i) rs)) → Seeks (event_at H p) old new
 seeks_of H p e rs given old new l is read same h i = h i ∙ ap (λ xs. get_or xs i false || list_any (λ r. r == i) rs) same

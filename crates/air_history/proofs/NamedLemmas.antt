@@ -1,4 +1,4 @@
--- The least of the reads that a test names: none exactly if no read passes, and by two tests that agree the same.
+-- The least of the reads that a test names: there is none if and only if no read passes, and tests that agree name the same.
 use Rattle.std.proofs.Common.{◌≡◌, Bool, true, false, cond, nat_le, Option, Some, None, List, [], ◌∷◌, map, All, refl, sym, ◌∙◌, ap, inl, inr, arith}
 use Rattle.std.specs.List.{filter}
 use Rattle.std.proofs.lemmas.Bool.{cases_Bool, both_ways, cond-true, cond-false}
@@ -22,7 +22,7 @@ least_none : least [] ≡ None
 unfolding least
 least_none = refl
 
--- Nothing is named exactly if no read passes.
+-- Nothing is named if and only if no read passes.
 pub none_named : (f : ReadAt → Bool) (R : List ReadAt) → named_clash f R ≡ None → All (λ r. f r ≡ false) R
 none_named f [] e = λ k d l. absurd (omega arith)
 none_named f (r ∷ R) e = by (f r) refl e (none_named f R)
@@ -39,7 +39,7 @@ named_none f (r ∷ R) h = by (f r) (All-head (λ r. f r ≡ false) r R h) (name
     by true h rest = absurd (both_ways true h refl)
     by false h rest = rest
 
--- A test on reads and one on heard reads that agree name the same reads.
+-- If a test on reads and one on heard reads agree, they name the same reads.
 pub named_heard : (s : ReadAt → Bool) (t : HeardRead → Bool) (R : List HeardRead) → All (λ r. s (read_at r) ≡ t r) R → filter s (map read_at R) ≡ map read_at (filter t R)
 named_heard s t [] h = refl
 named_heard s t (r ∷ R) h =

@@ -1,4 +1,5 @@
--- When a policy has no clash, by policy: the reads stay consistent, stay current, or the read is taken.
+-- When a read has no clash: under F-Matrix the reads stay consistent, under Datacycle they stay current, under R-Matrix it is
+-- taken.
 use Rattle.std.proofs.Common.{◌≡◌, ◌↔◌, ◌⊎◌, ℕ, zero, suc, ◌<◌, ◌≤◌, max, Bool, true, false, cond, not, ◌==◌, nat_le, Option, Some, None, List, [], ◌∷◌, ◌++◌, length, get_or, All, refl, sym, ◌∙◌, subst, inl, inr, arith, IsTrue}
 use Rattle.std.proofs.lemmas.Bool.{cases_lt, both_ways, eq-eqb, cond-true, cond-false, leb-true, leb-false, false_from_ne_true, not_from_true, not-false, false≢true, true_from_ne_false}
 use Rattle.std.proofs.lemmas.List.Elements.{All-head, All-tail, All-push}
@@ -124,7 +125,7 @@ between H i a g c ag gc o ec ea = last_unique (length (front H g)) (λ q. writes
     narrow None hc ha = λ q l. false_from_ne_true _ (λ w. both_ways (writes (event_at H q) i) (hc q (in_later q g c gc l w)) w)
     narrow (Some v) hc ha = (in_later v a g ag ha.0 ha.1, ha.1, λ q above l. false_from_ne_true _ (λ w. both_ways (writes (event_at H q) i) (hc.2 q above (in_later q g c gc l w)) w))
 
--- Where x's item has at x's cycle the origin that it had at the first held cycle, the reads with x stay those of the cycle g.
+-- If x's item has the same origin at x's cycle as at the first held cycle, the reads with x still share cycle g.
 pub stays_between : (H : List Event) (first g : ℕ) (R : List ReadAt) (x : ReadAt) → first ≤ g → g ≤ x.cycle → SharesCycle H R g → writer (front H x.cycle) x.item ≡ writer (front H first) x.item → SharesCycle H (R ++ x ∷ []) g
 stays_between H first g R x fg gc one same = All-push (λ r. stale H r g ≡ false) R x one
     (same_fresh H x g (between H x.item first g x.cycle fg gc (writer (front H x.cycle) x.item) refl (sym same) ∙ sym (origin_of H x.item x.cycle)))

@@ -1,4 +1,4 @@
--- Small histories: where each relation and each word of a law holds, and where most of them don't.
+-- Small histories: where each relation and each definition of a law holds, and where most of them don't.
 use Rattle.std.proofs.Common.{◌≡◌, ℕ, zero, suc, ◌<◌, ◌≤◌, Bool, true, false, ◌==◌, ◌||◌, Some, IfSome, List, [], ◌∷◌, get_or, Contains, refl, subst, inl, inr, arith}
 use Rattle.std.proofs.lemmas.Bool.{false≢true, eqb-true, or_cases}
 use Rattle.std.proofs.lemmas.List.Elements.{All-nil, All-cons, All-from_recursion}
@@ -27,7 +27,7 @@ use Rattle.air_history.proofs.ClashExamples.{at, apart, one_written}
 abbrev first_then_next : List ReadAt
 first_then_next = at 0 1 ∷ at 1 2 ∷ []
 
--- An update that reads item 0 and puts it and 1 into item 2.
+-- An update that reads item 0 and writes its value plus 1 to item 2.
 abbrev two_from_zero : UpdateLists
 two_from_zero = record { reads = 0 ∷ []; writes = add_to 2 0 1 ∷ [] }
 
@@ -54,9 +54,9 @@ pub record Updates : Type 0 where
   start_fits : ItemsFit 0 Start
   -- item 2 isn't below 2
   not_fits : ItemsFit 2 (commit 1 (0 ∷ []) (add_to 2 0 1)) → ⊥
-  -- the commit is of updater 0, and so fits where there is one
+  -- the commit is of updater 0, and so fits if there is one updater
   event_fits : EventFits 1 3 (commit 1 (0 ∷ []) (add_to 2 0 1))
-  -- and not where there is none, nor over two items
+  -- it doesn't fit if there is no updater, nor over two items
   no_updater : EventFits 0 3 (commit 1 (0 ∷ []) (add_to 2 0 1)) → ⊥
   no_item : EventFits 1 2 (commit 1 (0 ∷ []) (add_to 2 0 1)) → ⊥
   -- the write's item 2 and its base 0 are below 3
@@ -136,13 +136,13 @@ pub record Reads : Type 0 where
   read : IsRead (at 0 1)
   -- cycle 0 can't
   not_read : IsRead (at 0 0) → ⊥
-  -- both items have in cycle 1 the origin that they were read with
+  -- in cycle 1 both items have the origin that they were read with
   shares_one : SharesCycle one_written first_then_next 1
   -- in cycle 2 item 0 has another
   not_two : SharesCycle one_written first_then_next 2 → ⊥
-  -- no single cycle has both, and yet they are consistent
+  -- no single cycle has both, but they are consistent
   consistent_apart : IsConsistent apart first_then_next
-  -- item 1 of cycle 2 descends from a write of item 0 that the first read has not seen
+  -- item 1 of cycle 2 descends from a write of item 0 that the first read hasn't seen
   not_consistent : IsConsistent chain_history first_then_next → ⊥
   -- the column of item 1 in cycle 2 has item 0 at cycle 1
   entry : entry_at chain_history 2 1 0 ≡ 1
@@ -195,21 +195,21 @@ held = record {
 -- ---- what is heard, and what a policy accepts
 
 pub record Accepted : Type 0 where
-  -- under F-Matrix the column of item 1 comes with it
+  -- under F-Matrix the column of item 1 is heard with it
   heard_column : HasAiredEntries (scheme_of FMatrix) 2 apart (record { item = 1; cycle = 2; entries = 0 ∷ 1 ∷ [] })
-  -- under R-Matrix the write vector does
+  -- under R-Matrix the write vector is heard with it
   heard_vector : HasAiredEntries (scheme_of RMatrix) 2 apart (record { item = 1; cycle = 2; entries = 1 ∷ 1 ∷ [] })
   -- under F-Matrix cycles may fall
   any_order : IsAllowed FMatrix (at 0 2 ∷ at 1 1 ∷ [])
   -- under R-Matrix they may rise
   in_order : IsAllowed RMatrix first_then_next
-  -- and they may not fall
+  -- they may not fall
   not_in_order : IsAllowed RMatrix (at 0 2 ∷ at 1 1 ∷ []) → ⊥
   -- item 1 of cycle 2 passes after item 0 of cycle 1
   passes_next : passes RMatrix one_written (at 0 1 ∷ []) (at 1 2) ≡ true
-  -- after item 0 of cycle 2 item 1 of cycle 1 is late, and doesn't
+  -- after item 0 of cycle 2, item 1 of cycle 1 is late and doesn't pass
   late_fails : passes RMatrix one_written (at 0 2 ∷ []) (at 1 1) ≡ false
-  -- and the first passes after nothing
+  -- R-Matrix accepts both reads
   accepts_r : Accepts RMatrix one_written first_then_next
   -- F-Matrix accepts reads that share no cycle
   accepts_f : Accepts FMatrix apart first_then_next
@@ -219,14 +219,14 @@ pub record Accepted : Type 0 where
   shares_current : SharesItsCycle RMatrix one_written first_then_next
   -- these share the newest cycle, which is 2
   shares_newest : SharesItsCycle Datacycle one_written (at 1 1 ∷ at 0 2 ∷ [])
-  -- and those don't
+  -- these don't
   not_shared : SharesItsCycle Datacycle one_written first_then_next → ⊥
   -- under R-Matrix the accepted reads are consistent and share the current cycle
   sound_r : IsSound RMatrix one_written first_then_next
   -- under F-Matrix they are consistent
   sound_f : IsSound FMatrix apart first_then_next
 
--- Where each of the two reads passes, they are accepted.
+-- If each of the two reads passes, they are accepted.
 both_pass : (policy : Policy) (H : List Event) → passes policy H [] (at 0 1) ≡ true → passes policy H (at 0 1 ∷ []) (at 1 2) ≡ true → Accepts policy H first_then_next
 both_pass policy H one two zero d l = one
 both_pass policy H one two (suc zero) d l = two

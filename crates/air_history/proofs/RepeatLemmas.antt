@@ -1,4 +1,4 @@
--- No rule is broken exactly if each rule holds.
+-- No rule is broken if and only if each rule holds.
 use Rattle.std.proofs.Common.{◌≡◌, ◌≢◌, ◌↔◌, ◌≤◌, ℕ, suc, Bool, true, false, ◌&&◌, ◌||◌, ◌==◌, nat_le, Option, Some, None, IfSome, List, [], ◌∷◌, length, map, get_or, All, Contains, refl, sym, ◌∙◌, ap, arith}
 use Rattle.std.specs.Prelude.{AllPairs}
 use Rattle.std.specs.List.{list_any, list_all}
@@ -12,7 +12,7 @@ use Rattle.air_history.specs.UpdateLists.{UpdateLists}
 use Rattle.air_history.specs.UpdateRules.{has_repeat, written_item, within_limits, base_is_read, base_holds, update_fault, KeepsRules}
 use Rattle.air_history.proofs.UpdateRuleLemmas.{rules_kept, few_reads, some_write, few_writes, each_passes, base_read}
 
--- None of the list is x.
+-- No element of the list is x.
 none_is : (x : ℕ) (xs : List ℕ) → list_any (λ y. y == x) xs ≡ false → All (λ y. x ≢ y) xs
 none_is x [] h = λ k d l. absurd (omega arith)
 none_is x (y ∷ xs) h =
@@ -24,7 +24,7 @@ is_none x [] h = refl
 is_none x (y ∷ xs) h =
     ap (λ b. b || list_any (λ y. y == x) xs) (ne_eqb y x (λ e. All-head (λ y. x ≢ y) y xs h (sym e))) ∙ is_none x xs (All-tail (λ y. x ≢ y) y xs h)
 
--- Nothing stands twice exactly if each two differ.
+-- No number is in a list twice if and only if each two elements differ.
 apart_from : (xs : List ℕ) → has_repeat xs ≡ false → AllPairs (λ a b. a ≢ b) xs
 unfolding has_repeat
 apart_from [] h = λ i j d lt within. absurd (omega arith)
@@ -39,7 +39,7 @@ from_apart (x ∷ xs) h =
     ap (λ b. b || has_repeat xs) (is_none x xs (λ k d l. h 0 (suc k) d (omega arith) (omega arith)))
     ∙ from_apart xs (λ i j d lt within. h (suc i) (suc j) d (omega arith) (omega arith))
 
--- A base without a read is no base, and then there is no minus.
+-- A write without a base has no minus.
 minus_holds : (reads : List ℕ) (minus : Bool) (base : Option ℕ) → base_holds reads minus base ≡ true → base ≡ None → minus ≡ false
 minus_holds reads minus None h e = not-true minus h
 minus_holds reads minus (Some b) h e = absurd (let f : ◌≡◌ {A = Option ℕ} (Some b) None = e in cc)

@@ -77,7 +77,7 @@ from_front H c item (Some p) h = (
       both_ways (writes (event_at H q) item) (h.2 q above (front_holds H c q l (writer_no_start (event_at H q) item both.0) (ltb-true (cycle_at H q) c both.1))) both.0),
 )
 
--- The last place of the front that writes the item is the last of the history that does in a cycle below c.
+-- The last place of the front that writes the item is the last place of the history that writes it in a cycle below c.
 pub writer_is_last : (H : List Event) (c item : ℕ) → last_written H c item (length H) ≡ writer (front H c) item
 unfolding last_written
 writer_is_last H c item = last_place_from (length H) _ _ (from_front H c item (writer (front H c) item) (front_writer_is H c item))

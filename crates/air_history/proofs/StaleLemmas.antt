@@ -1,4 +1,5 @@
--- Tests on places and reads, and what they mean: consistent as a test, two reads by the entries, stale reads.
+-- Tests on places and reads, and what they mean: whether reads are consistent, whether two reads agree by their entries, and
+-- which reads are stale.
 use Rattle.std.proofs.Common.{◌≡◌, ℕ, ◌<◌, ◌≤◌, true, false, not, ◌||◌, nat_le, leb, Option, Some, None, List, [], ◌∷◌, length, refl, sym, ◌∙◌, subst, inl, inr, arith}
 use Rattle.std.specs.Option.{option_map_or}
 use Rattle.std.proofs.lemmas.Bool.{cases_lt, both_ways, le-leb, lt-leb, not_from_true, not_from_false, or_from, or_left, or_right, false_from_ne_true, not-false}
@@ -13,7 +14,7 @@ use Rattle.air_history.proofs.HistoryLemmas.{writer_no_start, writes_within, fro
 use Rattle.air_history.proofs.ScanLemmas.{front_writer_is}
 use Rattle.air_history.proofs.ConsistencyLemmas.{pair_agree, same_place_decides}
 
--- Two reads clash by the history where they do by the entries.
+-- Two reads clash by the history if they clash by the entries.
 pub pair_test : (H : List Event) (r x : ReadAt) → 1 ≤ r.cycle → 1 ≤ x.cycle →
     not (consistent H (r ∷ x ∷ [])) ≡ (nat_le r.cycle (entry_at H x.cycle x.item r.item) || nat_le x.cycle (entry_at H r.cycle r.item x.item))
 pair_test H r x ir ix =
@@ -48,7 +49,7 @@ writer_is H c i o e = subst (IsLast (length (front H c)) (λ q. writes (event_at
 pub not_same : (o p : Option ℕ) → (o ≡ p → ⊥) → same_place o p ≡ false
 not_same o p h = false_from_ne_true _ (λ e. h ((same_place_decides o p).0 e))
 
--- The cycle of a place, and 0 where there is none.
+-- The cycle of a place; 0 if there is no place.
 abbrev pub cycle_of : List Event → Option ℕ → ℕ
 cycle_of G o = option_map_or (cycle_at G) o 0
 
@@ -67,12 +68,12 @@ stale_at H i a c pos le (Some w) e =
           ∙ sym (le-leb a (cycle_at (front H c) w) (omega arith))
     ]
 
--- A read is stale exactly if the vector's entry of its item isn't below its cycle.
+-- A read is stale if and only if the vector's entry of its item isn't below its cycle.
 pub stale_is : (H : List Event) (r : ReadAt) (c : ℕ) → 1 ≤ r.cycle → r.cycle ≤ c → stale H r c ≡ nat_le r.cycle (vector_entry (front H c) r.item)
 unfolding stale vector_entry
 stale_is H r c pos le = stale_at H r.item r.cycle c pos le (writer (front H c) r.item) refl
 
--- An item has another origin at a later cycle exactly if the later vector's entry isn't below the earlier cycle.
+-- An item has another origin at a later cycle if and only if the later vector's entry isn't below the earlier cycle.
 pub origin_told : (H : List Event) (i a c : ℕ) → 1 ≤ a → a ≤ c → not (same_origin H i c a) ≡ nat_le a (vector_entry (front H c) i)
 unfolding vector_entry
 origin_told H i a c pos le = stale_at H i a c pos le (writer (front H c) i) refl
@@ -80,7 +81,7 @@ origin_told H i a c pos le = stale_at H i a c pos le (writer (front H c) i) refl
 pub same_origin_says : (H : List Event) (i c d : ℕ) → same_origin H i c d ≡ true → writer (front H c) i ≡ writer (front H d) i
 same_origin_says H i c d e = (same_place_decides (writer (front H c) i) (writer (front H d) i)).0 e
 
--- A read that isn't stale at c has its own origin there, and the other way round.
+-- A read isn't stale at c if and only if its item has the read's own origin there.
 pub fresh_same : (H : List Event) (r : ReadAt) (c : ℕ) → stale H r c ≡ false → writer (front H c) r.item ≡ origin H r
 unfolding stale origin
 fresh_same H r c e = (same_place_decides (writer (front H c) r.item) (origin H r)).0 (not-false _ e)

@@ -53,11 +53,11 @@ module _ (G : List Event) (e : Event) where
   old_cycle : (p : ℕ) → p ≤ length G → cycle_at (G ++ e ∷ []) p ≡ cycle_at G p
   old_cycle p h = cycle_append G (e ∷ []) p h
 
-  -- the descent of an old writer is what it was
+  -- the descent of an old writer doesn't change
   old_place : (j p : ℕ) → place_and (writer G j) (λ w. descends (G ++ e ∷ []) w p) ≡ place_and (writer G j) (λ w. descends G w p)
   old_place j p = place_same (writer G j) (λ w. descends (G ++ e ∷ []) w p) (λ w. descends G w p) (λ w h. old_descent w p (old_writer_below j w h))
 
-  -- where the event doesn't write j, the column stays
+  -- if the event doesn't write j, the column doesn't change
   step_other : (j i : ℕ) → writes e j ≡ false → column_entry (G ++ e ∷ []) j i ≡ column_entry G j i
   unfolding column_entry column_counts
   step_other j i miss =
@@ -76,7 +76,7 @@ module _ (G : List Event) (e : Event) where
       ∙ ap (λ x. place_and (writer G j) (λ w. descends G w p) && writes x i) (same_below p l))
       (λ p l. old_cycle p (omega arith))
 
-  -- where it writes j, the column counts the descent of the new place
+  -- if the event writes j, the column counts the descent of the new place
   column_counts_new : (j i p : ℕ) → writes e j ≡ true → column_counts j i p ≡ (descends (G ++ e ∷ []) (length G) p && writes (event_at (G ++ e ∷ []) p) i)
   unfolding column_counts
   column_counts_new j i p hit =
@@ -94,7 +94,8 @@ module _ (G : List Event) (e : Event) where
       ∙ cond-true (column_counts j i (length G)) _ _ new
       ∙ top
 
-  -- an old place is in the descent of the new one exactly if it is in that of the last writer of an item that the event reads
+  -- an old place is in the descent of the new one if and only if it is in that of the last writer of an item that the event
+  -- reads
   new_descent : (p : ℕ) → p < length G → descends (G ++ e ∷ []) (length G) p ≡ list_any (λ item. place_and (writer G item) (λ w. descends G w p)) (reads e)
   unfolding writer
   new_descent p l =

@@ -1,4 +1,4 @@
--- What the rules of an update give: its limits, and that each base is one of its reads.
+-- What follows from the rules of an update: its limits, and that each base is one of its reads.
 use Rattle.std.proofs.Common.{◌≡◌, ℕ, ◌<◌, ◌≤◌, Bool, true, false, cond, not, ◌&&◌, ◌||◌, ◌==◌, nat_le, Option, Some, None, IfSome, List, [], ◌∷◌, length, map, get_or, All, Contains, refl, subst, arith}
 use Rattle.std.specs.List.{list_all}
 use Rattle.std.proofs.lemmas.Bool.{and_parts, leb-true, eqb-true}
@@ -45,7 +45,7 @@ some_write u kept =
     let limits = and_parts (nat_le (length u.reads) MOST_READS) (nat_le 1 (length u.writes) && nat_le (length u.writes) MOST_WRITES) (rules_kept u.reads u.writes kept).limits in
     leb-true 1 (length u.writes) (and_parts (nat_le 1 (length u.writes)) (nat_le (length u.writes) MOST_WRITES) limits.1).0
 
--- Each element passes where all do.
+-- Each element passes if all do.
 pub each_passes : (f : Write → Bool) (ws : List Write) → list_all f ws ≡ true → All (λ w. f w ≡ true) ws
 each_passes f [] e = λ k d l. absurd (omega arith)
 each_passes f (w ∷ ws) e = let parts = and_parts (f w) (list_all f ws) e in All-cons (λ w. f w ≡ true) w ws parts.0 (each_passes f ws parts.1)

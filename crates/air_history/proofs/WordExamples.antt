@@ -1,4 +1,4 @@
--- The small words of histories, reads and updates, computed at their ends.
+-- The small definitions of histories, reads and updates, computed at their ends.
 use Rattle.std.specs.Prelude.{◌≡◌, ◌^◌, ◌-◌, ℕ, List, [], ◌∷◌, ◌==◌, Option, Some, None, true, false, refl}
 use Rattle.air_base.specs.declared.verdicts.Clash.{Clash}
 use Rattle.air_base.specs.declared.verdicts.Policy.TheVariants.{FMatrix, Datacycle, RMatrix}
@@ -16,7 +16,7 @@ use Rattle.air_history.specs.Tables.{value_after_write, value_of_write, value_on
 use Rattle.air_history.specs.UpdateRules.{base_holds, base_is_read, within_limits, written_item}
 use Rattle.air_history.proofs.HistoryExamples.{add_to, commit, set_to}
 
--- A read of an item in a cycle, and the same as it was heard with entries.
+-- A read of an item in a cycle, and the same read as it was heard with entries.
 abbrev at : ℕ → ℕ → ReadAt
 at item cycle = record { item = item; cycle = cycle }
 
@@ -34,11 +34,11 @@ three = at 5 2 ∷ at 6 4 ∷ at 7 3 ∷ []
 abbrev three_heard : List HeardRead
 three_heard = heard 5 2 (9 ∷ 1 ∷ []) ∷ heard 6 4 (8 ∷ 2 ∷ []) ∷ heard 7 4 (7 ∷ 3 ∷ []) ∷ []
 
--- Item 0 becomes 11 in cycle 1, and item 1 that and 1 in cycle 2.
+-- Item 0 becomes 11 in cycle 1, and item 1 becomes item 0 plus 1 in cycle 2.
 abbrev one_by_one : List Event
 one_by_one = Start ∷ commit 0 [] (set_to 0 11) ∷ Start ∷ commit 1 (0 ∷ []) (add_to 1 0 1) ∷ Start ∷ []
 
--- A write of a base less an amount.
+-- A write of a base minus an amount.
 abbrev less : Write
 less = record { item = 2; base = Some 1; minus = true; amount = 21 }
 
@@ -59,7 +59,7 @@ pub record Words : Type 0 where
   last : last_cycle three ≡ 3
   none_read : last_cycle [] ≡ 0
   second : cycle_in three 1 ≡ 4
-  -- clashes: among two of one item the first, and whatever comes after the lesser
+  -- clashes: of two of one item the first is taken; of two items the lesser
   lesser_item : lesser (at 5 2) (clash_at 6 4) ≡ clash_at 5 2
   same_item : lesser (at 5 2) (clash_at 5 4) ≡ clash_at 5 2
   greater_item : lesser (at 7 2) (clash_at 6 4) ≡ clash_at 6 4
@@ -70,23 +70,23 @@ pub record Words : Type 0 where
   without_entries : read_at (heard 5 2 (9 ∷ [])) ≡ at 5 2
   entry : entry_of (heard 5 2 (9 ∷ 1 ∷ [])) 1 ≡ 1
   no_entry : entry_of (heard 5 2 (9 ∷ 1 ∷ [])) 2 ≡ 0
-  -- of two reads of a cycle the entries of the first
+  -- of two reads of one cycle, the first one's entries
   entry_of_first : entry_in three_heard 4 0 ≡ 8
   entry_of_none : entry_in three_heard 3 0 ≡ 0
   heard_named : heard_clash (λ r. r.cycle == 4) three_heard ≡ clash_at 6 4
   heard_newest : newest_heard three_heard ≡ 4
   heard_first : first_heard three_heard ≡ 2
-  -- the column of item 1 in cycle 3 has both commits, the vector the last writers
+  -- the column of item 1 in cycle 3 has both commits, the vector has the last writers
   aired_column : aired_entries (scheme_of FMatrix) 3 one_by_one 3 1 ≡ 1 ∷ 2 ∷ 0 ∷ []
   aired_first : aired_entries (scheme_of FMatrix) 3 one_by_one 3 0 ≡ 1 ∷ 0 ∷ 0 ∷ []
   aired_vector : aired_entries (scheme_of Datacycle) 3 one_by_one 3 0 ≡ 1 ∷ 2 ∷ 0 ∷ []
   aired_early : aired_entries (scheme_of RMatrix) 3 one_by_one 2 0 ≡ 1 ∷ 0 ∷ 0 ∷ []
-  -- values: a difference goes around at 2^64, and what no list has is 0
+  -- values: a difference wraps at 2^64, and an item outside the list has 0
   set_value : value_of_write (values_of (10 ∷ 20 ∷ [])) (record { item = 0; base = None; minus = false; amount = 7 }) ≡ 7
   lesser_value : value_of_write (values_of (10 ∷ 20 ∷ [])) less ≡ 2 ^ 64 - 1
   unwritten : value_after_write (values_of (10 ∷ 20 ∷ [])) 1 None ≡ 20
   written : value_after_write (values_of (10 ∷ 22 ∷ [])) 2 (Some less) ≡ 1
-  -- updates: 16 reads and 16 writes at most, and a write at least
+  -- updates: at most 16 reads and 16 writes, and at least one write
   one_write : within_limits [] (less ∷ []) ≡ true
   no_write : within_limits [] [] ≡ false
   no_base : base_holds [] false None ≡ true

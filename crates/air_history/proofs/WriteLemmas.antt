@@ -1,4 +1,4 @@
--- Writing new values from the last write back, and running event after event.
+-- Writing new values from the last write back to the first, and running event after event.
 use Rattle.std.proofs.Common.{◌≡◌, ℕ, ◌+◌, ◌<◌, ◌≤◌, ◌==◌, List, [], ◌∷◌, ◌++◌, length, get_or, set, take, find, All, None, refl, sym, ◌∙◌, ap, inl, inr, arith}
 use Rattle.std.proofs.lemmas.Bool.{cases_lt, cond-false, ne_eqb}
 use Rattle.std.proofs.lemmas.List.{get_or-set_same, get_or-set_other, get_or_default, get_or_past, take_more}
@@ -26,7 +26,7 @@ fresh_more V writes fresh k e x lk lf is before j d h =
 
 -- ---- one event, and many
 
--- Where each item below the length has its new value and no write is beyond it, every item has.
+-- If each item below the length has its new value and no write is beyond the length, every item has its new value.
 pub put_all : (V now : List ℕ) (ws : List Write) → length now ≡ length V → All (λ w. w.item < length V) ws →
     ((i : ℕ) → i < length now → get_or now i 0 ≡ value_after_write (values_of V) i (find (λ w. w.item == i) ws)) →
     (i : ℕ) → get_or now i 0 ≡ value_after_write (values_of V) i (find (λ w. w.item == i) ws)

@@ -7,7 +7,7 @@ use Rattle.air_history.specs.Histories.{reads, writes_of, event_at, starts, cycl
 use Rattle.air_history.specs.Columns.{column, vector}
 use Rattle.air_history.specs.Tables.{table, values_of, table_list}
 
--- The answer to a commit: its place, its cycle, the values that it read and wrote, in the update's order.
+-- The answer to a commit: its place, its cycle, the values that it read and those that it wrote, both in the update's order.
 pub record Reply : Type 0 where
   pub number : ℕ
   pub cycle : ℕ

@@ -9,12 +9,12 @@ use Rattle.air_history.specs.Places.{greatest, place_and}
 use Rattle.air_history.specs.Histories.{writes, event_at, cycle_at, front, writer}
 use Rattle.air_history.specs.Descents.{descends}
 
--- Entry i of the column of item j: the greatest cycle of a commit that writes item i, among those from
--- which the last writer of item j descends, else 0.
+-- Entry i of the column of item j: among the commits from which the last writer of item j descends, the greatest cycle of one
+-- that writes item i; 0 if there is none.
 unfoldable pub column_entry : List Event → ℕ → ℕ → ℕ
 column_entry G j i = greatest (length G) (λ p. place_and (writer G j) (λ w. descends G w p) && writes (event_at G p) i) (cycle_at G)
 
--- Entry i of the write vector: the cycle of the last writer of item i, 0 where there is none.
+-- Entry i of the write vector: the cycle of the last writer of item i; 0 if there is none.
 unfoldable pub vector_entry : List Event → ℕ → ℕ
 vector_entry G i = option_map_or (cycle_at G) (writer G i) 0
 
@@ -30,7 +30,7 @@ vector n G = map (vector_entry G) (range_with_len 0 n)
 abbrev pub entry_at : List Event → ℕ → ℕ → ℕ → ℕ
 entry_at H c j i = column_entry (front H c) j i
 
--- A scheme decides which entries are aired with an item: its policy does.
+-- A scheme says which entries are aired with an item. Its policy decides that.
 pub record Scheme : Type 0 where
   pub policy : Policy
 
@@ -38,7 +38,7 @@ pub record Scheme : Type 0 where
 abbrev pub scheme_of : Policy → Scheme
 scheme_of policy = record { policy = policy }
 
--- What a policy airs with item j in cycle c: its control column under F-Matrix, else the write vector.
+-- What a policy airs with item j in cycle c: the item's control column under F-Matrix, otherwise the write vector.
 abbrev pub policy_entries : Policy → ℕ → List Event → ℕ → ℕ → List ℕ
 policy_entries FMatrix n H c j = column n (front H c) j
 policy_entries Datacycle n H c j = vector n (front H c)

@@ -1,5 +1,5 @@
--- What it means that reads are consistent: when the updates from which they descend run alone, in commit
--- order, each read item has as its last writer the read's own origin. No cycle of an entry is compared here.
+-- Reads are consistent if, when the updates from which they descend run alone in commit order, each read item has as its last
+-- writer the read's own origin. The definition compares no cycle of an entry.
 use Rattle.std.specs.Prelude.{ℕ, zero, suc, Bool, cond, ◌&&◌, List, [], ◌∷◌, ◌++◌, length, IsTrue, Option}
 use Rattle.std.specs.List.{list_any, list_all}
 use Rattle.air_history.specs.declared.histories.Event.{Event}
@@ -12,7 +12,7 @@ use Rattle.air_history.specs.Reads.{ReadAt, origin}
 unfoldable pub descends_from : List Event → ReadAt → ℕ → Bool
 descends_from H r p = place_and (origin H r) (λ o. descends H o p)
 
--- Whether the commit at place p is run when the updates from which the reads descend run alone.
+-- Whether the commit at place p is among the updates from which the reads descend.
 unfoldable pub runs_alone : List Event → List ReadAt → ℕ → Bool
 runs_alone H R p = list_any (λ r. descends_from H r p) R
 
@@ -25,11 +25,12 @@ picked_events (suc n) H test = picked_events n H test ++ cond (test n) (event_at
 unfoldable pub alone : List Event → List ReadAt → List Event
 alone H R = picked_events (length H) H (runs_alone H R)
 
--- The last place that runs alone and writes the item.
+-- The last place of the updates that run alone whose commit writes the item.
 unfoldable pub last_alone : List Event → List ReadAt → ℕ → Option ℕ
 last_alone H R item = last_place (length H) (λ p. runs_alone H R p && writes (event_at H p) item)
 
--- Whether the reads are consistent: the last that runs alone and writes a read's item is the read's own origin.
+-- Whether the reads are consistent: for each read, the last of the updates that run alone and writes its item is its own
+-- origin.
 unfoldable pub consistent : List Event → List ReadAt → Bool
 consistent H R = list_all (λ r. same_place (last_alone H R r.item) (origin H r)) R
 

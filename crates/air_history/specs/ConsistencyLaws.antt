@@ -1,4 +1,4 @@
--- The word of the law that reads of one cycle are consistent, `one_cycle_law`.
+-- The definition of the law that reads of one cycle are consistent, `one_cycle_law`.
 use Rattle.std.specs.Prelude.{◌≡◌, ℕ, false, List, All}
 use Rattle.air_history.specs.declared.histories.Event.{Event}
 use Rattle.air_history.specs.Reads.{ReadAt, stale}

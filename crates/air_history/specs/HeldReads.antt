@@ -1,4 +1,4 @@
--- What contracts see of held reads, whatever the policy, and which reads may be tried against them or join them.
+-- What contracts see of held reads, under any policy, and which reads may be tried against them or join them.
 use Rattle.std.specs.Prelude.{◌≡◌, ◌≢◌, ℕ, ◌<◌, ◌≤◌, List, length, map, All}
 use Rattle.air_history.specs.Reads.{last_cycle}
 use Rattle.air_history.specs.Clashes.{HeardRead, read_at}
@@ -15,6 +15,6 @@ pub record IsNew (held : HeldReads) (x : HeardRead) : Type 0 where
   pub sized : length x.entries ≡ held.n
   pub below : All (λ entry. entry < x.cycle) x.entries
 
--- The read comes in the order of cycles, as R-Matrix wants it: its cycle isn't below that of the last held read.
+-- The read comes in the order of cycles, as R-Matrix requires: its cycle isn't below that of the last held read.
 abbrev pub ComesInOrder : HeldReads → HeardRead → Type 0
 ComesInOrder held x = last_cycle (map read_at held.reads) ≤ x.cycle

@@ -1,5 +1,5 @@
--- A history is a list of events, commits and cycle starts, and a place is an index into it from 0.
--- Here: what an event reads and writes, the cycle of a place, the front of a cycle, the last writer.
+-- A history is a list of events, which are commits and cycle starts. A place is an index into it, from 0. Defined here: what an
+-- event reads and writes, the cycle of a place, the front of a cycle, and the last writer.
 use Rattle.std.specs.Prelude.{ℕ, zero, suc, ◌<◌, Bool, true, false, ◌==◌, List, [], ◌∷◌, length, get_or, take, count_by, cond, Option}
 use Rattle.std.specs.List.{list_any}
 use Rattle.air_history.specs.declared.histories.Event.{Event}
@@ -28,7 +28,7 @@ unfoldable pub writes : Event → ℕ → Bool
 writes (Commit by seq update) item = list_any (λ w. w.item == item) update.writes
 writes Start item = false
 
--- The event at a place; past the end it counts as a start, which reads and writes nothing.
+-- The event at a place. A place after the end counts as a start, which reads and writes nothing.
 abbrev pub event_at : List Event → ℕ → Event
 event_at H p = get_or H p Start
 
@@ -40,7 +40,7 @@ starts H = count_by is_start H
 unfoldable pub cycle_at : List Event → ℕ → ℕ
 cycle_at H p = count_by is_start (take p H)
 
--- The front of cycle c: the events before the c-th start, none for c = 0, and all where there are fewer starts.
+-- The front of cycle c: the events before the c-th start. It is empty for c = 0, and has all events if there are fewer starts.
 unfoldable pub front : List Event → ℕ → List Event
 front H zero = []
 front [] (suc c) = []
@@ -48,7 +48,7 @@ front (Start ∷ H) (suc zero) = []
 front (Start ∷ H) (suc (suc c)) = Start ∷ front H (suc c)
 front (Commit by seq update ∷ H) (suc c) = Commit by seq update ∷ front H (suc c)
 
--- The events after the last start, all where there is none.
+-- The events after the last start; all events if there is no start.
 unfoldable pub since_start : List Event → List Event
 since_start [] = []
 since_start (e ∷ G) = cond (list_any is_start (e ∷ G)) (since_start G) (e ∷ G)
@@ -57,7 +57,7 @@ since_start (e ∷ G) = cond (list_any is_start (e ∷ G)) (since_start G) (e �
 unfoldable pub writer_before : List Event → ℕ → ℕ → Option ℕ
 writer_before G p item = last_place p (λ q. writes (event_at G q) item)
 
--- The last writer: the last place of the list whose commit writes the item; None is the catalog.
+-- The last writer: the last place of the list whose commit writes the item. None stands for the catalog.
 unfoldable pub writer : List Event → ℕ → Option ℕ
 writer G item = writer_before G (length G) item
 
@@ -66,7 +66,7 @@ unfoldable pub ItemsFit : ℕ → Event → Type 0
 ItemsFit n (Commit by seq update) = UpdateFits n update
 ItemsFit n Start = Unit {0}
 
--- The event fits so many updaters and n items: its updater is below the number of updaters, and its items are below n.
+-- The event fits this many updaters and n items: its updater is below the number of updaters, and its items are below n.
 unfoldable pub EventFits : ℕ → ℕ → Event → Type 0
 EventFits updaters n (Commit by seq update) = (by < updaters) × UpdateFits n update
 EventFits updaters n Start = Unit {0}

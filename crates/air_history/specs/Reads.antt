@@ -10,11 +10,11 @@ pub record ReadAt : Type 0 where
   pub item : ℕ
   pub cycle : ℕ
 
--- Cycles are read from 1 on.
+-- Cycles can be read from 1 on.
 abbrev pub IsRead : ReadAt → Type 0
 IsRead r = 1 ≤ r.cycle
 
--- The place of the commit whose value the read has; None is the catalog.
+-- The place of the commit whose value the read has. None stands for the catalog.
 unfoldable pub origin : List Event → ReadAt → Option ℕ
 origin H r = writer (front H r.cycle) r.item
 
@@ -30,23 +30,23 @@ same_origin H item c d = same_place (writer (front H c) item) (writer (front H d
 unfoldable pub stale : List Event → ReadAt → ℕ → Bool
 stale H r c = not (same_origin H r.item c r.cycle)
 
--- The newest cycle of the reads, 0 where there is none.
+-- The newest cycle of the reads; 0 if there is no read.
 abbrev pub newest_cycle : List ReadAt → ℕ
 newest_cycle [] = 0
 newest_cycle (r ∷ R) = max r.cycle (newest_cycle R)
 
--- The oldest cycle of the reads, 0 where there is none.
+-- The oldest cycle of the reads; 0 if there is no read.
 abbrev pub oldest_cycle : List ReadAt → ℕ
 oldest_cycle [] = 0
 oldest_cycle (r ∷ []) = r.cycle
 oldest_cycle (r ∷ s ∷ R) = min r.cycle (oldest_cycle (s ∷ R))
 
--- The cycle of the first read, 0 where there is none.
+-- The cycle of the first read; 0 if there is none.
 abbrev pub first_cycle : List ReadAt → ℕ
 first_cycle [] = 0
 first_cycle (r ∷ R) = r.cycle
 
--- The cycle of the last read, 0 where there is none.
+-- The cycle of the last read; 0 if there is none.
 abbrev pub last_cycle : List ReadAt → ℕ
 last_cycle [] = 0
 last_cycle (r ∷ []) = r.cycle

@@ -1,21 +1,21 @@
--- The values after running the commits of a list of events from given values, all modulo 2^64.
--- A table is a function from items to values; `values_of` makes one of a list.
+-- The values after running the commits of a list of events from given values, all modulo 2^64. A table is a function from items
+-- to values; `values_of` makes one from a list.
 use Rattle.std.specs.Prelude.{ℕ, ◌+◌, ◌-◌, ◌%◌, ◌^◌, ◌<◌, Bool, cond, ◌==◌, List, [], ◌∷◌, length, get_or, find, map, All, Contains, IfSome, Option, Some, None}
 use Rattle.std.specs.List.{range_with_len}
 use Rattle.air_history.specs.declared.updates.Write.{Write}
 use Rattle.air_history.specs.declared.histories.Event.{Event}
 use Rattle.air_history.specs.declared.histories.Event.TheVariants.{Commit, Start}
 
--- The value that a write puts, from the values before it: the amount, or the base's value plus or minus the amount.
+-- The value that a write gives an item, from the values before it: the amount, or the base's value plus or minus the amount.
 unfoldable pub value_on_base : (ℕ → ℕ) → Option ℕ → Bool → ℕ → ℕ
 value_on_base V None minus amount = amount
 value_on_base V (Some b) minus amount = cond minus ((V b + (2 ^ 64 - amount)) % 2 ^ 64) ((V b + amount) % 2 ^ 64)
 
--- The value that a write puts.
+-- The value that a write gives an item.
 abbrev pub value_of_write : (ℕ → ℕ) → Write → ℕ
 value_of_write V w = value_on_base V w.base w.minus w.amount
 
--- The item's value where this is the write of it, if there is one.
+-- The item's value after this write, or as before if there is no write of it.
 abbrev pub value_after_write : (ℕ → ℕ) → ℕ → Option Write → ℕ
 value_after_write V item None = V item
 value_after_write V item (Some w) = value_of_write V w
@@ -25,7 +25,7 @@ unfoldable pub write_of : Event → ℕ → Option Write
 write_of (Commit by seq u) item = find (λ w. w.item == item) u.writes
 write_of Start item = None
 
--- The item's value after the event; all written values come from the values before it.
+-- The item's value after the event. All written values are computed from the values before it.
 unfoldable pub value_after : (ℕ → ℕ) → Event → ℕ → ℕ
 value_after V e item = value_after_write V item (write_of e item)
 

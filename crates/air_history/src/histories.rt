@@ -1,6 +1,6 @@
 //! Events and histories.
 //!
-//! A history is seen by contracts as the list of its events. Places count from 0, cycles from 1.
+//! Contracts see a history as the list of its events. Places count from 0, cycles from 1.
 
 ghost use Rattle.std.specs.Prelude.{◌≡◌, ◌↔◌, ◌<◌, ◌^◌, length, All, IsTrue};
 ghost use Rattle.air_history.specs.Histories.{is_start, writes, reads, writes_of, event_at, starts, ItemsFit};
@@ -18,7 +18,7 @@ pub enum Event {
 }
 
 impl Event {
-    /// Whether it is a cycle start.
+    /// Whether the event is a cycle start.
     #[tactic(auto, unfolding(crate::specs::Histories::is_start))]
     pub fn is_start(&self) -> bool
         ensures { result ≡ is_start self.now }
@@ -29,7 +29,7 @@ impl Event {
         }
     }
 
-    /// The items that its update reads; a start reads nothing.
+    /// The items that the event's update reads; a start reads nothing.
     #[tactic(auto, unfolding(crate::specs::Histories::reads))]
     pub fn reads(&self) -> &[u16]
         ensures { result.now ≡ reads self.now }
@@ -40,7 +40,7 @@ impl Event {
         }
     }
 
-    /// The writes of its update; a start writes nothing.
+    /// The writes of the event's update; a start writes nothing.
     #[tactic(auto, unfolding(crate::specs::Histories::writes_of))]
     pub fn writes(&self) -> &[Write]
         ensures { result.now ≡ writes_of self.now }
@@ -51,7 +51,7 @@ impl Event {
         }
     }
 
-    /// Whether all items of its update are below `n`.
+    /// Whether all items of the event's update are below `n`.
     #[tactic(auto, unfolding(crate::specs::Histories::ItemsFit))]
     pub fn fits(&self, n: u16) -> bool
         ensures { IsTrue result ↔ ItemsFit n self.now }
@@ -62,7 +62,7 @@ impl Event {
         }
     }
 
-    /// Whether it is a commit that writes the item.
+    /// Whether the event is a commit that writes the item.
     #[tactic(auto, unfolding(crate::specs::Histories::writes))]
     pub fn writes_item(&self, item: u16) -> bool
         ensures { result ≡ writes self.now item }
@@ -73,7 +73,7 @@ impl Event {
         }
     }
 
-    /// Hands a rule of its update's type to a caller's proof, that each base is read; it does nothing.
+    /// For proofs only: tells the caller that each base of the event's update is read. It does nothing at run time.
     pub fn shows_rules_kept(&self)
         ensures { BasesRead self.now }
     {
@@ -135,7 +135,7 @@ impl History {
         &self.events
     }
 
-    /// Whether all items of its updates are below `n`.
+    /// Whether all items of the history's updates are below `n`.
     pub fn fits(&self, n: u16) -> bool
         ensures { IsTrue result ↔ All (ItemsFit n) self.now }
     {

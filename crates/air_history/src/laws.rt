@@ -1,7 +1,7 @@
-//! The laws of histories: how the definitions of `air_history` hang together, over every history.
+//! The laws of histories: how the definitions of `air_history` are related, for every history.
 //!
-//! Each function's contract is one law; the bodies are empty. The definitions are what must be believed, and
-//! these follow from them. They stand apart so that they are checked once: no test and no edit has them proved again.
+//! Each function's contract is one law; the bodies are empty. A reader has to believe the definitions; the laws follow from
+//! them. They are in a file of their own so that they are proved only once: no test and no edit has them proved again.
 
 ghost use Rattle.std.specs.Prelude.{◌≡◌, ◌≢◌, ◌↔◌, ◌⊎◌, ℕ, ◌<◌, ◌≤◌, Bool, false, cond, List, [], ◌∷◌, ◌++◌, length, map, All, AllPairs, Contains, IfSome, IsTrue, None};
 ghost use Rattle.air_base.specs.declared.limits.TheConstants.{MOST_READS, MOST_WRITES};
@@ -22,8 +22,8 @@ ghost use Rattle.air_history.specs.ConsistencyLaws.{SharesCycle};
 ghost use Rattle.air_history.specs.Clashes.{HeardRead, read_at, is_late, clash_by_history, clash_by_entries, IsCurrent, Takes};
 ghost use Rattle.air_history.specs.ClashLaws.{HaveAiredEntries, IsAllowed, Accepts, IsSound};
 
-/// Two lists break no rule exactly if each rule holds: reads and writes within their limits, one write at least, no item twice
-/// among either, each base read, a minus only with a base.
+/// Two lists break no rule if and only if each rule holds: reads and writes are within their limits, there is at least one
+/// write, no item is twice among the reads or among the writes, each base is read, and a minus has a base.
 pub fn rules_law()
     ensures { (u : UpdateLists) → KeepsRules u ↔
         ((length u.reads ≤ MOST_READS) × (1 ≤ length u.writes) × (length u.writes ≤ MOST_WRITES)
@@ -32,7 +32,8 @@ pub fn rules_law()
         × All (λ w. w.base ≡ None → w.minus ≡ false) u.writes) }
 {}
 
-/// The descent of a place is the least set that holds it and, with each of its places, each that it reads from.
+/// The descent of a place is the least set that holds the place and, with each of its places, each place that this one reads
+/// from.
 pub fn descent_law()
     ensures itself { (G : List Event) (p : ℕ) → IsTrue (descends G p p) }
     ensures closed { (G : List Event) (p : ℕ) → IsClosed G (descends G p) }
@@ -40,8 +41,8 @@ pub fn descent_law()
         (q : ℕ) → IsTrue (descends G p q) → IsTrue (S q) }
 {}
 
-/// Two reads are consistent exactly if neither's column has the other's item at its cycle or later, and
-/// inconsistent exactly if one's column has it so, in one direction or the other.
+/// Two reads are consistent if and only if neither's column has the other's item at the other's cycle or later. They are
+/// inconsistent if and only if one's column has it.
 pub fn pair_law()
     ensures consistent { (H : List Event) (r s : ReadAt) → IsRead r → IsRead s →
         IsConsistent H (r ∷ s ∷ []) ↔
@@ -51,20 +52,20 @@ pub fn pair_law()
         ((r.cycle ≤ entry_at H s.cycle s.item r.item) ⊎ (s.cycle ≤ entry_at H r.cycle r.item s.item)) }
 {}
 
-/// Reads are consistent exactly if each two of them are.
+/// Reads are consistent if and only if each two of them are.
 pub fn whole_law()
     ensures { (H : List Event) (R : List ReadAt) → All IsRead R →
         IsConsistent H R ↔ AllPairs (λ r s. IsConsistent H (r ∷ s ∷ [])) R }
 {}
 
-/// One more read keeps reads consistent exactly if it is consistent with each.
+/// One more read keeps reads consistent if and only if it is consistent with each of them.
 pub fn more_law()
     ensures { (H : List Event) (R : List ReadAt) (x : ReadAt) → All IsRead R → IsRead x → IsConsistent H R →
         IsConsistent H (R ++ x ∷ []) ↔ All (λ r. IsConsistent H (r ∷ x ∷ [])) R }
 {}
 
-/// One more event changes the entry of item i in the column of item j: to the present cycle where it writes both,
-/// to the greatest entry of i in a column that it reads where it writes j alone; else it leaves it.
+/// One more event changes the entry of item i in the column of item j. If the event writes both, the entry becomes the present
+/// cycle. If it writes only j, the entry becomes the greatest entry of i in a column that the event reads. Otherwise it stays.
 pub fn column_law()
     ensures { (G : List Event) (e : Event) (j i : ℕ) → column_entry (G ++ e ∷ []) j i ≡
         cond (writes e j)
@@ -72,14 +73,13 @@ pub fn column_law()
         (column_entry G j i) }
 {}
 
-/// One more event puts the present cycle into the vector at the items that it writes, and leaves the rest.
+/// One more event puts the present cycle into the vector at the items that it writes, and leaves the others as they are.
 pub fn vector_law()
     ensures { (G : List Event) (e : Event) (i : ℕ) →
         vector_entry (G ++ e ∷ []) i ≡ cond (writes e i) (cycle_at G (length G)) (vector_entry G i) }
 {}
 
-/// Consistent reads have the values that the updates from which they descend leave when they run alone, in
-/// commit order.
+/// Consistent reads have the values that the updates from which they descend give when they run alone, in commit order.
 pub fn values_law()
     ensures { (V : ℕ → ℕ) (H : List Event) (R : List ReadAt) → All BasesRead H → IsConsistent H R →
         All (λ r. table V (alone H R) r.item ≡ read_value V H r) R }
@@ -90,27 +90,27 @@ pub fn one_cycle_law()
     ensures { (H : List Event) (R : List ReadAt) (g : ℕ) → All IsRead R → SharesCycle H R g → IsConsistent H R }
 {}
 
-/// Wherever the entries are the history's, in full or as ages tell them of reads that don't lie too far apart, the clash by the
-/// entries is the clash by the history.
+/// The clash by the entries is the clash by the history if the entries are the history's, in full or, for reads that aren't too
+/// far apart, as ages give them.
 pub fn clash_law()
     ensures { (scheme : Scheme) (n : ℕ) (H : List Event) (R : List HeardRead) (x : HeardRead) → HaveAiredEntries scheme n H R x →
         IsAllowed scheme.policy (map read_at R ++ read_at x ∷ []) →
         clash_by_history scheme.policy H (map read_at R) (read_at x) ≡ clash_by_entries scheme.policy R x }
 {}
 
-/// After consistent reads, F-Matrix has no clash exactly if the reads stay consistent.
+/// After consistent reads, F-Matrix has no clash if and only if the reads stay consistent.
 pub fn stays_consistent_law()
     ensures { (H : List Event) (R : List ReadAt) (x : ReadAt) → All IsRead R → IsRead x → IsConsistent H R →
         (clash_by_history FMatrix H R x ≡ None) ↔ IsConsistent H (R ++ x ∷ []) }
 {}
 
-/// After current reads, Datacycle has no clash exactly if the reads stay current.
+/// After current reads, Datacycle has no clash if and only if the reads stay current.
 pub fn stays_current_law()
     ensures { (H : List Event) (R : List ReadAt) (x : ReadAt) → All IsRead R → IsRead x → IsCurrent H R →
         (clash_by_history Datacycle H R x ≡ None) ↔ IsCurrent H (R ++ x ∷ []) }
 {}
 
-/// R-Matrix has no clash with a read that isn't late exactly if it takes the read.
+/// R-Matrix has no clash with a read that isn't late if and only if it takes the read.
 pub fn takes_law()
     ensures { (H : List Event) (R : List ReadAt) (x : ReadAt) → is_late RMatrix R x ≡ false →
         (clash_by_history RMatrix H R x ≡ None) ↔ Takes H R x }

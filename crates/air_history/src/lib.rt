@@ -1,9 +1,9 @@
 //! Updates, events and histories, and what it means that reads of a history are consistent.
 //!
-//! `specs/` is the first half of what must be believed: it defines the cycle and the front of a history, the
-//! last writer, descent, tables of values, consistent reads, control columns, write vectors and clashes.
-//! `laws` says how these hang together, over every history: each law is carried by a function that does nothing. `scans` has
-//! the slow programs, each proved to be its definition: faster bodies are compared with them, and the audit uses them.
+//! `specs/` is the first half of what must be believed. It defines the cycle and the front of a history, the last writer,
+//! descent, tables of values, consistent reads, control columns, write vectors and clashes. `laws` says how these are related,
+//! for every history: each law is the contract of a function that does nothing. `scans` has slow calls, each proved to give
+//! what its definition says; faster implementations are compared with them, and the audit uses them.
 #![tactic(auto)]
 
 pub mod histories;

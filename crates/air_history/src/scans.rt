@@ -1,6 +1,6 @@
-//! The slow programs: the last writer, descent and control columns, found by scanning the history.
+//! The slow calls: the last writer, descent and control columns, found by scanning the history.
 //!
-//! Each is proved to be its definition for every history. Faster bodies are compared with them.
+//! Each is proved to give what its definition says, for every history. Faster implementations are compared with them.
 
 ghost use Rattle.std.specs.Prelude.{◌≡◌, ◌==◌, ◌<◌, ◌≤◌, ◌^◌, ℕ, false, not, ◌&&◌, ◌||◌, cond, All, length, map, get_or, IfOk, OnOk, OnErr, slice_index_or};
 ghost use Rattle.std.specs.List.{list_any, range_with_len};
@@ -15,8 +15,8 @@ use air_base::NoMemory;
 use air_base::limits::ITEM_NUMBERS;
 use std::alloc::Global;
 
-/// The last place before the cycle's start whose commit writes the item, and `None` exactly if there is none.
-/// Cycle 0 has an empty front.
+/// The last place before the cycle's start whose commit writes the item; `None` if and only if there is none. Cycle 0 has an
+/// empty front.
 pub fn writer_at(h: &History, cycle: u32, item: u16) -> Option<u64>
     requires { cycle ≤ starts h.now }
     ensures { result ≡ writer (front h.now cycle) item }
@@ -33,7 +33,7 @@ pub fn writer_at(h: &History, cycle: u32, item: u16) -> Option<u64>
     last
 }
 
-/// Room for so many items, none of which is looked for.
+/// A flag for each of `count` items, none of which is looked for.
 fn none_sought(alloc: Global, count: usize) -> Result<Vec<bool>, NoMemory>
     ensures sized { IfOk result (λ sought. length sought.items ≡ count) }
     ensures clear { IfOk result (λ sought. (i : ℕ) → get_or sought.items i false ≡ false) }
@@ -54,7 +54,7 @@ fn writes_sought(writes: &[Write], sought: &[bool]) -> bool
     false
 }
 
-/// The items that are written are looked for no longer.
+/// Removes the items that are written from those looked for.
 fn forget_written(writes: &[Write], sought: &mut [bool])
     requires { 2 ^ 16 ≤ length sought.old }
     ensures { (i : ℕ) → get_or sought.new i false ≡
@@ -65,7 +65,7 @@ fn forget_written(writes: &[Write], sought: &mut [bool])
     }
 }
 
-/// The items that are read are looked for too.
+/// Adds the items that are read to those looked for.
 fn seek_read(reads: &[u16], sought: &mut [bool])
     requires { 2 ^ 16 ≤ length sought.old }
     ensures { (i : ℕ) → get_or sought.new i false ≡
@@ -78,8 +78,8 @@ fn seek_read(reads: &[u16], sought: &mut [bool])
 
 /// Marks the places from which the commit at `place` descends, itself included.
 ///
-/// One pass backwards: a commit that writes an item looked for is marked; what it writes is found, and what it reads is
-/// looked for before it.
+/// One pass backwards. A commit that writes an item looked for is marked. The items that it writes are then found, and those
+/// that it reads are looked for before it.
 pub fn descends(alloc: Global, h: &History, place: u64) -> Result<Vec<bool>, NoMemory>
     requires { place < length h.now }
     ensures { IfOk result (λ marks. marks.items ≡ map (descends h.now place) (range_with_len 0 (length h.now))) }
@@ -100,7 +100,7 @@ pub fn descends(alloc: Global, h: &History, place: u64) -> Result<Vec<bool>, NoM
     Ok(marks)
 }
 
-/// Puts the cycle into the place of each item that is written.
+/// Puts the cycle at the place of each item that is written.
 fn stamp(out: &mut [u32], writes: &[Write], cycle: u32)
     requires { All (λ w. w.item < length out.old) writes.now }
     ensures { (i : ℕ) → i < length out.old →
@@ -111,7 +111,7 @@ fn stamp(out: &mut [u32], writes: &[Write], cycle: u32)
     }
 }
 
-/// Puts into the place of each item the cycle of the last marked commit that writes it, and leaves zeros elsewhere.
+/// Puts at the place of each item the cycle of the last marked commit that writes it, and leaves zeros elsewhere.
 fn stamp_marked(events: &[Event], marks: &[bool], out: &mut [u32])
     requires sized { length marks.now ≡ length events.now }
     requires few { starts events.now < 2 ^ 32 }

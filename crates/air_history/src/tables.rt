@@ -1,4 +1,4 @@
-//! The values after running commits, in place and without memory.
+//! The values after running commits, changed in place and without taking memory.
 
 ghost use Rattle.std.specs.Prelude.{◌≡◌, ◌==◌, ℕ, ◌<◌, ◌≤◌, length, take, find, All, IfSome, get_or, slice_index, slice_index_or, EachIndex};
 ghost use Rattle.air_history.specs.declared.updates.Write.{Write};
@@ -21,7 +21,7 @@ pub fn table_of(h: &History, upto: u64, values: &mut [u64])
     }
 }
 
-/// Runs one event on the values, without memory.
+/// Runs one event on the values, without taking memory.
 pub fn run_event(event: &Event, values: &mut [u64])
     requires { ItemsFit (length values.old) event.now }
     ensures { (i : ℕ) → slice_index_or values.new i 0 ≡ value_after (values_of values.old) event.now i }
@@ -32,7 +32,7 @@ pub fn run_event(event: &Event, values: &mut [u64])
     }
 }
 
-/// Runs one update on the values: first all new values, from those before it, then the writes.
+/// Runs one update on the values: first computes all new values from those before it, then writes them.
 fn run_update(update: &Update, values: &mut [u64])
     requires { UpdateFits (length values.old) update.now }
     ensures { (i : ℕ) → slice_index_or values.new i 0 ≡ value_after_write (values_of values.old) i (find (λ w. w.item == i) update.now.writes) }
@@ -42,7 +42,7 @@ fn run_update(update: &Update, values: &mut [u64])
     write_values(values, update.writes(), &fresh);
 }
 
-/// The value that a write puts, from the values before it.
+/// The value that a write gives its item, from the values before it.
 #[tactic(auto, unfolding(crate::specs::Tables::value_on_base))]
 fn written_value(values: &[u64], write: &Write) -> u64
     requires { IfSome write.now.base (λ b. b < length values.now) }

@@ -1,7 +1,7 @@
 //! Updates: what a transaction of the server reads and writes.
 //!
-//! The type keeps the rules: reads distinct and at most 16, writes distinct and 1 to 16, each base read, a minus
-//! only with a base. Contracts see an update as its two lists.
+//! The type keeps these rules: reads are distinct and at most 16; writes are distinct and 1 to 16; each base is read; a minus
+//! has a base. Contracts see an update as its two lists.
 
 ghost use Rattle.std.specs.Prelude.{◌≡◌, ◌↔◌, ◌≤◌, length, map, MatchResult, IfOk, IsTrue, ◌⊎◌, ◌==◌, Some, None};
 ghost use Rattle.std.specs.List.{list_any, list_all};
@@ -29,9 +29,9 @@ pub struct Write {
 pub enum UpdateFault {
     /// There are more than 16 reads, no write, or more than 16 writes.
     Limit,
-    /// An item stands twice among the reads or among the writes.
+    /// An item is twice among the reads or among the writes.
     Repeated,
-    /// A base isn't read, or a minus stands without a base.
+    /// A base isn't read, or a minus has no base.
     BaseNotRead,
     /// There was no memory for the update.
     NoMemory,
@@ -103,8 +103,9 @@ impl Update {
         })
     }
 
-    /// An update of lists that keep the rules: these are asked of the caller, and not looked through again. `shows_rules_kept` tells it of
-    /// the lists of any update; of other lists it is known where a caller has found no fault in them, and else `new` finds out.
+    /// An update of lists that keep the rules. The caller proves that they do; the lists aren't tested again.
+    /// `shows_rules_kept` gives the proof for the lists of any update. For other lists a caller needs its own test, or calls
+    /// `new`.
     #[inline(always)]
     pub fn of_lists(alloc: Global, reads: &[u16], writes: &[Write]) -> Result<Update, NoMemory>
         requires { update_fault reads.now writes.now ≡ None }
@@ -126,28 +127,28 @@ impl Update {
         })
     }
 
-    /// The items that it reads, in order.
+    /// The items that the update reads, in order.
     pub fn reads(&self) -> &[u16]
         ensures { result.now ≡ self.now.reads }
     {
         self.reads.as_slice()
     }
 
-    /// Its writes, in order.
+    /// The update's writes, in order.
     pub fn writes(&self) -> &[Write]
         ensures { result.now ≡ self.now.writes }
     {
         &self.writes
     }
 
-    /// Whether all its items are below `n`.
+    /// Whether all items of the update are below `n`.
     pub fn fits(&self, n: u16) -> bool
         ensures { IsTrue result ↔ UpdateFits n self.now }
     {
         self.reads.iter().all(|item| *item < n) && self.writes.iter().all(|write| write.item < n)
     }
 
-    /// Hands the rules of its type to a caller's proof; it does nothing.
+    /// For proofs only: tells the caller that the rules of the type hold. It does nothing at run time.
     pub fn shows_rules_kept(&self)
         ensures { KeepsRules self.now }
     {
@@ -155,7 +156,7 @@ impl Update {
     }
 }
 
-/// The items in the value itself, as an update keeps them.
+/// The items, stored in the value itself as an update keeps them.
 #[inline(always)]
 fn inline(items: &[u16]) -> ArrayVec<u16, MOST_READS>
     requires { length items.now ≤ MOST_READS }
@@ -180,7 +181,7 @@ pub fn writes_item(writes: &[Write], item: u16) -> bool
     writes.iter().any(|write| write.item == item)
 }
 
-/// Whether a number stands twice.
+/// Whether the list has a number twice.
 #[tactic(auto, using(crate::proofs::RepeatedItemLemmas::repeats_none, crate::proofs::RepeatedItemLemmas::repeats_here, crate::proofs::RepeatedItemLemmas::repeats_more, crate::proofs::RepeatedItemLemmas::repeats_all))]
 fn has_number_twice(numbers: &[u16]) -> bool
     ensures { result ≡ has_repeat numbers.now }
@@ -206,7 +207,7 @@ fn has_item_twice(writes: &[Write]) -> bool
     false
 }
 
-/// Whether the write's base is read, and a minus stands only with a base.
+/// Whether the write's base is read, and a minus has a base.
 fn is_based(reads: &[u16], write: &Write) -> bool
     ensures { result ≡ base_is_read reads.now write.now }
 {
@@ -216,7 +217,7 @@ fn is_based(reads: &[u16], write: &Write) -> bool
     }
 }
 
-/// Whether each write's base is read, and each minus stands with a base.
+/// Whether each write's base is read, and each minus has a base.
 fn all_based(reads: &[u16], writes: &[Write]) -> bool
     ensures { result ≡ list_all (base_is_read reads.now) writes.now }
 {

@@ -18,21 +18,20 @@ lanes_first t long =
 not_zero : (m : ℕ) → (m ≡ 0 → ⊥) → eqb m 0 ≡ false
 not_zero m ne = grind arith
 
--- Where no bit is set, no lane passes.
+-- If no bit is set, no lane passes.
 pub no_lane : (t : List Bool) → length t ≡ 8 → mask_l t % 2 ^ 64 ≡ 0 → 8 ≡ prefix_len (λ b. not b) t
 no_lane t long none = ap (λ v. cond (eqb v 0) 8 (count_trailing_zeros 64 v)) (sym none) ∙ lanes_first t long
 
--- Else the lowest bit is the first lane that passes.
+-- Otherwise the lowest bit is the first lane that passes.
 pub some_lane : (t : List Bool) → length t ≡ 8 → (mask_l t % 2 ^ 64 ≡ 0 → ⊥) → count_trailing_zeros 64 (mask_l t % 2 ^ 64) ≡ prefix_len (λ b. not b) t
 some_lane t long some =
     ap (λ v. cond v 8 (count_trailing_zeros 64 (mask_l t % 2 ^ 64))) (sym (not_zero (mask_l t % 2 ^ 64) some)) ∙ lanes_first t long
 
--- The bits of the comparison of the column's lanes with the held ones: one for the top of each lane of what the comparison
--- leaves.
+-- The bits of the comparison of the column's lanes with the held ones: each is the top bit of a lane of the result.
 abbrev pub lane_bits : (column held : List ℕ) (at : ℕ) → ℕ
 lane_bits column held at = mask_l (map (top (hbits w32)) (zip2 (λ a b. cond (leb a b) (2 ^ bits w32 - 1) 0) (chunk at 8 held) (chunk at 8 column))) % 2 ^ 64
 
--- The lowest of these bits, and where there is none.
+-- The lowest of these bits, or that there is none.
 module _ (column held : List ℕ) (at : ℕ) (room : at + 8 ≤ length column) (same : length held ≡ length column) where
   lanes_len : length (zip2 leb (chunk at 8 held) (chunk at 8 column)) ≡ 8
   lanes_len =
@@ -57,7 +56,7 @@ not_false : (b : Bool) → not b ≡ false → b ≡ true
 not_false true e = refl
 not_false false e = cc e
 
--- The lanes of the comparison, as places of the two rows.
+-- The lanes of the comparison are places of the two lists.
 lane_is : (column held : List ℕ) (at k : ℕ) → at + 8 ≤ length column → length held ≡ length column → k < 8 →
     get_or (zip2 leb (chunk at 8 held) (chunk at 8 column)) k false ≡ leb (get_or held (at + k) 0) (get_or column (at + k) 0)
 lane_is column held at k room same l =
@@ -69,7 +68,7 @@ lane_is column held at k room same l =
     ∙ ap (λ h. leb h (get_or x k 0)) (get_or-chunk at 8 held k 0 l)
     ∙ ap (λ c. leb (get_or held (at + k) 0) c) (get_or-chunk at 8 column k 0 l)
 
--- What the number of lanes before the first one says of the two rows.
+-- What the number of lanes before the first one that passes says of the two lists.
 pub counted_within : (column held : List ℕ) (at r : ℕ) → at + 8 ≤ length column → length held ≡ length column →
     r ≡ prefix_len (λ b. not b) (zip2 leb (chunk at 8 held) (chunk at 8 column)) → r ≤ 8
 counted_within column held at r room same is =

@@ -1,4 +1,4 @@
--- A block of eight with the greater of two lanes in each, stored into its row.
+-- A block of eight with the greater of two lanes in each, stored into its list.
 use Rattle.std.proofs.Common.{◌≡◌, ◌≤◌, ◌<◌, ◌+◌, ◌⊎◌, ℕ, List, Bool, false, length, max, get_or, cond, ap, ◌∙◌, inl, inr, ltb, arith}
 use lib.Lanes.{chunk, put_chunk, sel_l, zip2}
 use Rattle.std.proofs.lemmas.Simd.{length-zip2, length-sel_l, get_or-sel_l, get_or-zip2, length-chunk, get_or-chunk, get_or-put_chunk_at, get_or-put_chunk_above, get_or-put_chunk_below}
@@ -24,7 +24,7 @@ pick_greater_at x y k a b below =
     ∙ ap (λ t. cond t (get_or y k 0) (get_or x k 0)) (get_or-zip2 ltb x y k 0 0 false (omega arith) (omega arith))
     ∙ max_by_test (get_or x k 0) (get_or y k 0)
 
--- The row with the block stored, inside and outside of the block.
+-- The list with the block stored, inside and outside of the block.
 pub stored_inside : (dst src : List ℕ) (at k : ℕ) → at + 8 ≤ length dst → length src ≡ length dst → k < 8
     → get_or (put_chunk at dst (pick_greater (chunk at 8 dst) (chunk at 8 src))) (at + k) 0 ≡ max (get_or dst (at + k) 0) (get_or src (at + k) 0)
 stored_inside dst src at k room same below =
@@ -45,7 +45,7 @@ stored_outside dst src at k room same (inr above) =
     let n = pick_greater_len (chunk at 8 dst) (chunk at 8 src) (length-chunk at 8 dst room) (length-chunk at 8 src (omega arith)) in
     get_or-put_chunk_above at dst (pick_greater (chunk at 8 dst) (chunk at 8 src)) k 0 (omega arith)
 
--- What the comparison leaves is that.
+-- That is what the comparison leaves.
 pub stored_is : (dst src : List ℕ) (at : ℕ) (t : List Bool) → t ≡ zip2 ltb (chunk at 8 dst) (chunk at 8 src)
     → put_chunk at dst (sel_l t (chunk at 8 src) (chunk at 8 dst)) ≡ put_chunk at dst (pick_greater (chunk at 8 dst) (chunk at 8 src))
 unfolding pick_greater

@@ -1,4 +1,4 @@
--- Thirty-two lanes at once: where no bit of their comparison is set, the column is below what is held at all these places.
+-- Thirty-two lanes at once: if no bit of their comparison is set, the column is below what is held at all these places.
 use Rattle.std.proofs.Common.{◌≡◌, ◌≤◌, ◌<◌, ◌+◌, ◌-◌, ◌%◌, ◌^◌, ◌∙◌, ℕ, List, false, not, length, get_or, ap, sym, subst, inl, inr, leb, arith}
 use lib.Lanes.{chunk, mask_l, zip2}
 use Rattle.std.specs.List.{prefix_len}
@@ -24,7 +24,7 @@ none_below column held at k room same l none =
     ∙ ap (λ h. leb h (get_or x k 0)) (get_or-chunk at 32 held k 0 l)
     ∙ ap (λ c. leb (get_or held (at + k) 0) c) (get_or-chunk at 32 column k 0 l)) ∙ fails)
 
--- What is below up to a place, and at thirty-two places from there on, is below up to the place after these.
+-- If the column is below up to a place and at the thirty-two places from it on, it is below up to the place after these.
 pub below_more : (column held : List ℕ) (at k : ℕ) → ((j : ℕ) → j < at → get_or column j 0 < get_or held j 0) →
     ((j : ℕ) → j < 32 → get_or column (at + j) 0 < get_or held (at + j) 0) → k < at + 32 → get_or column k 0 < get_or held k 0
 below_more column held at k before next l = elim (cases_lt k at) [

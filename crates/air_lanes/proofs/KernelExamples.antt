@@ -1,4 +1,4 @@
--- The sentences of the kernels on short rows, computed, and what they refuse.
+-- The kernels' definitions on short lists, computed, and what they refuse.
 use Rattle.std.proofs.Common.{◌≡◌, ◌<◌, ℕ, zero, suc, List, Some, None, [], ◌∷◌, get_or, refl, arith}
 use Rattle.air_lanes.specs.Kernels.{greater_of_each, stamp_each, IsSearchAnswer}
 
@@ -11,7 +11,7 @@ rows_without_a_place = refl
 any_mark_but_zero : stamp_each 9 (0 ∷ 1 ∷ 4294967295 ∷ 0 ∷ []) (5 ∷ 6 ∷ 7 ∷ 8 ∷ []) ≡ 5 ∷ 9 ∷ 9 ∷ 8 ∷ []
 any_mark_but_zero = refl
 
--- An entry that is equal isn't below, and the first such place is named.
+-- An entry that is equal isn't below, and the first such place is the answer.
 equal_is_not_below : IsSearchAnswer (1 ∷ 4 ∷ 9 ∷ []) (2 ∷ 4 ∷ 3 ∷ []) (Some 1)
 equal_is_not_below = record {
   within = omega arith;
@@ -27,7 +27,7 @@ equal_is_not_below = record {
 later_is_not_first : IsSearchAnswer (1 ∷ 4 ∷ 9 ∷ []) (2 ∷ 4 ∷ 3 ∷ []) (Some 2) → ⊥
 later_is_not_first first = let below : 4 < 4 = first.before 1 (omega arith) in omega arith
 
--- None is the answer where the column is below everywhere.
+-- None is the answer if the column is below everywhere.
 below_everywhere : IsSearchAnswer (1 ∷ 3 ∷ []) (2 ∷ 4 ∷ []) None
 below_everywhere zero l = omega arith
 below_everywhere (suc zero) l = omega arith

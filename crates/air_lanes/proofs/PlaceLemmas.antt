@@ -1,4 +1,4 @@
--- The rows that the kernels leave, from their places and back: callers cite `greater_at` and `stamp_each_at`.
+-- The lists that the kernels give, place by place, and a list from its places. Callers cite `greater_at` and `stamp_each_at`.
 use Rattle.std.proofs.Common.{◌≡◌, ◌<◌, ◌==◌, ℕ, List, length, max, get_or, if◌then◌else◌, sym, ◌∙◌, arith}
 use Rattle.std.proofs.lemmas.List.{ext_get_or}
 use Rattle.std.proofs.lemmas.Simd.{get_or-zip2, length-zip2}

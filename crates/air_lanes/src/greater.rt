@@ -1,6 +1,7 @@
-//! The greater of two rows, place by place.
+//! The greater of two lists, place by place.
 //!
-//! One block of eight, the places after the last whole block, and the row of both. `control_matrix` gathers columns by it.
+//! The three calls are for one block of eight, for the places after the last whole block, and for the whole list.
+//! `control_matrix` gathers columns with the last.
 
 ghost use Rattle.std.specs.Prelude.{◌≡◌, ◌≤◌, ◌<◌, ◌+◌, ◌⊎◌, ℕ, length, max, slice_index};
 ghost use Rattle.air_lanes.specs.Kernels.{greater_of_each};
@@ -8,7 +9,7 @@ ghost use Rattle.air_lanes.specs.Kernels.{greater_of_each};
 use std::simd::prelude::*;
 use std::simd::u32x8;
 
-/// Puts the greater of the two entries into each of the eight places from one on.
+/// Puts the greater of the two entries into each of the eight places from `at` on.
 fn max_block(dst: &mut [u32], src: &[u32], at: usize)
     requires room { at + 8 ≤ length dst.old }
     requires same { length src.now ≡ length dst.old }
@@ -21,7 +22,7 @@ fn max_block(dst: &mut [u32], src: &[u32], at: usize)
     x.simd_max(y).copy_to_slice(&mut dst[at..]);
 }
 
-/// Puts the greater of the two entries into each place from one on.
+/// Puts the greater of the two entries into each place from `from` on.
 fn max_rest(dst: &mut [u32], src: &[u32], from: usize)
     requires { length src.now ≡ length dst.old }
     ensures before { (k : ℕ) → k < from → slice_index dst.new k ≡ slice_index dst.old k }

@@ -1,9 +1,9 @@
-//! Kernels over rows of control information: the greater of two rows, a stamp where a mark stands, and the first place at
+//! Kernels over lists of control information: the greater of two lists, a stamp where there is a mark, and the first place at
 //! which a column isn't below what is held.
 //!
-//! Each goes over blocks of eight lanes, and over what is left by a plain loop; `first_not_below` first passes over groups of
-//! thirty-two. Each is exactly its sentence in `specs/Kernels`, for rows of every length, and takes no memory. The board and
-//! the held reads stand on them.
+//! Each kernel goes over blocks of eight lanes, and over the remaining places by a plain loop; `first_not_below` first skips
+//! groups of thirty-two. Each gives what its definition in `specs/Kernels` says, for lists of any length, and takes no memory.
+//! The board and the held reads use them.
 #![tactic(auto)]
 
 mod greater;

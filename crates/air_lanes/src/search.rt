@@ -1,7 +1,7 @@
 //! The first place at which a column isn't below what is held.
 //!
-//! Groups of four blocks are passed over whole, by one test each; from the first that isn't, blocks of eight, then the places
-//! after the last whole block. `held_reads` names a clash by it.
+//! Groups of four blocks are skipped as a whole, with one test each. From the first group that isn't skipped on, blocks of
+//! eight are tested, then the places after the last whole block. `held_reads` finds the read that clashes with this call.
 
 ghost use Rattle.std.specs.Prelude.{◌≡◌, ◌≤◌, ◌<◌, ◌+◌, ℕ, length, slice_index};
 ghost use Rattle.air_lanes.specs.Kernels.{IsSearchAnswer};
@@ -9,7 +9,7 @@ ghost use Rattle.air_lanes.specs.Kernels.{IsSearchAnswer};
 use std::simd::prelude::*;
 use std::simd::{u32x8, u32x32};
 
-/// Bits that are 0 only where the column is below what is held at all thirty-two places from one on.
+/// Bits that are 0 only if the column is below what is held at all thirty-two places from `at` on.
 fn group_bits(column: &[u32], held: &[u32], at: usize) -> u64
     requires room { at + 32 ≤ length column.now }
     requires same { length held.now ≡ length column.now }
@@ -20,7 +20,7 @@ fn group_bits(column: &[u32], held: &[u32], at: usize) -> u64
     entries.simd_ge(cycles).to_bitmask()
 }
 
-/// How many of the eight places from one on come before the first at which the column isn't below what is held.
+/// How many of the eight places from `at` on come before the first at which the column isn't below what is held.
 fn first_in_block(column: &[u32], held: &[u32], at: usize) -> u32
     requires room { at + 8 ≤ length column.now }
     requires same { length held.now ≡ length column.now }
@@ -34,7 +34,7 @@ fn first_in_block(column: &[u32], held: &[u32], at: usize) -> u32
     if bits == 0 { 8 } else { bits.trailing_zeros() }
 }
 
-/// The first place from one on at which the column isn't below what is held.
+/// The first place from `from` on at which the column isn't below what is held.
 fn first_in_rest(column: &[u32], held: &[u32], from: usize) -> Option<usize>
     requires same { length held.now ≡ length column.now }
     requires below { (k : ℕ) → k < from → slice_index column.now k < slice_index held.now k }
@@ -48,7 +48,7 @@ fn first_in_rest(column: &[u32], held: &[u32], from: usize) -> Option<usize>
     None
 }
 
-/// The first place at which the column isn't below what is held, where it is below before a place.
+/// The first place at which the column isn't below what is held, if it is below at all places before `from`.
 fn first_from(column: &[u32], held: &[u32], from: usize) -> Option<usize>
     requires same { length held.now ≡ length column.now }
     requires within { from ≤ length column.now }
@@ -65,7 +65,7 @@ fn first_from(column: &[u32], held: &[u32], from: usize) -> Option<usize>
     first_in_rest(column, held, from + 8 * blocks)
 }
 
-/// The first place at which the column isn't below what is held; None exactly if there is none.
+/// The first place at which the column isn't below what is held; None if and only if there is no such place.
 pub fn first_not_below(column: &[u32], held: &[u32]) -> Option<usize>
     requires { length held.now ≡ length column.now }
     ensures { IsSearchAnswer column.now held.now result }

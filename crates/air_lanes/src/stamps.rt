@@ -1,6 +1,7 @@
-//! A cycle stamped into a row wherever a mark stands in another.
+//! A cycle stamped into a list at each place where another list has a mark.
 //!
-//! One block of eight, the places after the last whole block, and the row of both. `control_matrix` marks what a commit wrote.
+//! The three calls are for one block of eight, for the places after the last whole block, and for the whole list.
+//! `control_matrix` marks with the last what a commit wrote.
 
 ghost use Rattle.std.specs.Prelude.{◌≡◌, ◌≤◌, ◌<◌, ◌+◌, ◌⊎◌, ◌==◌, ℕ, length, slice_index, if◌then◌else◌};
 ghost use Rattle.air_lanes.specs.Kernels.{stamp_each};
@@ -8,7 +9,7 @@ ghost use Rattle.air_lanes.specs.Kernels.{stamp_each};
 use std::simd::prelude::*;
 use std::simd::u32x8;
 
-/// Puts the cycle into each of the eight places from one on whose mark isn't 0.
+/// Puts the cycle into each of the eight places from `at` on whose mark isn't 0.
 fn stamp_block(dst: &mut [u32], marks: &[u32], cycle: u32, at: usize)
     requires room { at + 8 ≤ length dst.old }
     requires same { length marks.now ≡ length dst.old }
@@ -24,7 +25,7 @@ fn stamp_block(dst: &mut [u32], marks: &[u32], cycle: u32, at: usize)
         .copy_to_slice(&mut dst[at..]);
 }
 
-/// Puts the cycle into each place from one on whose mark isn't 0.
+/// Puts the cycle into each place from `from` on whose mark isn't 0.
 fn stamp_rest(dst: &mut [u32], marks: &[u32], cycle: u32, from: usize)
     requires { length marks.now ≡ length dst.old }
     ensures before { (k : ℕ) → k < from → slice_index dst.new k ≡ slice_index dst.old k }

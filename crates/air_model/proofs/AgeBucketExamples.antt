@@ -21,7 +21,7 @@ use Rattle.air_model.proofs.SessionExamples.{aired_in, deck, item, pair, s, set_
 pub record Versions : Type 0 where
   in_full : has_ages 1 ≡ false
   by_age : has_ages 2 ≡ true
-  -- whatever comes after version 2 has ages too
+  -- each version after 2 has ages too
   later : has_ages 3 ≡ true
   most_in_full : most_count 1 ≡ 256
   most_by_age : most_count 2 ≡ 1024
@@ -39,14 +39,14 @@ pub record Entries : Type 0 where
   oldest : age_of 300 46 ≡ 254
   as_age : entry_bytes 2 300 46 ≡ 254 ∷ []
   as_entry : entry_bytes 1 300 46 ≡ 0 ∷ 0 ∷ 0 ∷ 46 ∷ []
-  -- the numbers stand behind the 24 bytes of the head, each of the version's width
+  -- the numbers follow the 24 bytes of the head, each with the version's width
   second_byte : raw_entry 2 1 (replicate 24 0 ++ 7 ∷ 8 ∷ 9 ∷ []) ≡ 8
   second_number : raw_entry 1 1 (replicate 24 0 ++ 0 ∷ 0 ∷ 0 ∷ 7 ∷ 0 ∷ 0 ∷ 1 ∷ 8 ∷ []) ≡ 264
-  -- an age tells the entry so many cycles ago, and the cap tells 0
+  -- an age gives the entry of that many cycles ago, and the cap gives 0
   told : entry_told 2 300 254 ≡ 46
   told_none : entry_told 2 300 255 ≡ 0
   told_itself : entry_told 1 300 254 ≡ 254
-  -- an age is from 1 on and below the cycle, or it is the cap
+  -- an age is at least 1 and below the cycle, or it is the cap
   no_age : is_entry 2 3 0 ≡ false
   own_cycle : is_entry 2 3 3 ≡ false
   before_it : is_entry 2 3 2 ≡ true
@@ -86,23 +86,23 @@ entries = record {
 abbrev varied : (ℕ → ℕ → List ℕ → Body) → List ℕ → Bucket
 varied kind entries = record { version = 2; edition = 3; cycle = 300; slot = 5; body = kind 2 0x0102030405060708 entries }
 
--- Its bytes, with the number of its kind and these ages of three items.
+-- The bucket's bytes, with the number of its kind and these ages of three items.
 abbrev varied_bytes : ℕ → List ℕ → List ℕ
 varied_bytes kind ages = 0x41 ∷ 0x44 ∷ 2 ∷ kind ∷ 0 ∷ 3 ∷ 0 ∷ 3 ∷ 0 ∷ 0 ∷ 1 ∷ 44 ∷ 0 ∷ 5 ∷ 0 ∷ 2 ∷ 1 ∷ 2 ∷ 3 ∷ 4 ∷ 5 ∷ 6 ∷ 7 ∷ 8 ∷ ages
 
--- An idle one of this version and number of items.
+-- An idle bucket of this version and number of items.
 abbrev idle : ℕ → ℕ → Bucket
 idle version count = record { version = version; edition = 0; cycle = 3; slot = 2; body = Idle count }
 
 abbrev idle_bytes : ℕ → ℕ → ℕ → List ℕ
 idle_bytes version high low = 0x41 ∷ 0x44 ∷ version ∷ 0 ∷ 0 ∷ 0 ∷ high ∷ low ∷ 0 ∷ 0 ∷ 0 ∷ 3 ∷ 0 ∷ 2 ∷ 0xff ∷ 0xff ∷ replicate 8 0
 
--- Of two items in cycle 3, with these ages.
+-- The bytes of a bucket of two items in cycle 3, with these ages.
 abbrev two_ages : List ℕ → List ℕ
 two_ages ages = 0x41 ∷ 0x44 ∷ 2 ∷ 1 ∷ 0 ∷ 0 ∷ 0 ∷ 2 ∷ 0 ∷ 0 ∷ 0 ∷ 3 ∷ 0 ∷ 0 ∷ 0 ∷ 0 ∷ 0 ∷ 0 ∷ 0 ∷ 0 ∷ 0 ∷ 0 ∷ 0 ∷ 10 ∷ ages
 
 pub record Bytes : Type 0 where
-  -- a column and a vector, both ways
+  -- a column and a vector, spelled and read
   column_spelled : spelling (varied Column (299 ∷ 46 ∷ 0 ∷ [])) ≡ varied_bytes 1 (1 ∷ 254 ∷ 255 ∷ [])
   vector_spelled : spelling (varied Vector (299 ∷ 46 ∷ 0 ∷ [])) ≡ varied_bytes 2 (1 ∷ 254 ∷ 255 ∷ [])
   column_read : reading (varied_bytes 1 (1 ∷ 254 ∷ 255 ∷ [])) ≡ Ok (varied Column (299 ∷ 46 ∷ 0 ∷ []))
@@ -114,7 +114,7 @@ pub record Bytes : Type 0 where
   age_of_none : reading (two_ages (0 ∷ 255 ∷ [])) ≡ Err Shape
   age_of_the_cycle : reading (two_ages (255 ∷ 3 ∷ [])) ≡ Err Shape
   age_past_the_cycle : reading (two_ages (254 ∷ 255 ∷ [])) ≡ Err Shape
-  -- 1,024 items are the most of version 2, and 256 of version 1
+  -- the most items are 1,024 in version 2, and 256 in version 1
   most_items : reading (idle_bytes 2 4 0) ≡ Ok (idle 2 1024)
   too_many : reading (idle_bytes 2 4 1) ≡ Err Shape
   no_items : reading (idle_bytes 2 0 0) ≡ Err Shape
@@ -174,7 +174,7 @@ in_range = record {
 }
 
 pub record NotInRange : Type 0 where
-  -- no age tells the entry 45 in cycle 300; neither 0 nor 3 is a version
+  -- no age gives the entry 45 in cycle 300; neither 0 nor 3 is a version
   too_old : IsInRange (varied Column (299 ∷ 46 ∷ 45 ∷ [])) → ⊥
   own_cycle : IsInRange (varied Column (299 ∷ 300 ∷ 0 ∷ [])) → ⊥
   third_version : IsInRange (record (varied Column (299 ∷ 46 ∷ 0 ∷ [])) { version = 3 }) → ⊥
@@ -199,7 +199,7 @@ not_in_range = record {
 
 -- ---- what a history airs
 
--- An entry that is 255 cycles old or more is 0 where the bucket has ages, and stays where it has none.
+-- In a bucket with ages, an entry that is 255 cycles old or more is 0; in one without ages it stays.
 pub record Capped : Type 0 where
   as_told : capped_bucket (varied Column (299 ∷ 46 ∷ 45 ∷ [])) ≡ varied Column (299 ∷ 46 ∷ 0 ∷ [])
   in_full : capped_bucket (record (varied Vector (299 ∷ 46 ∷ 45 ∷ [])) { version = 1 }) ≡ record (varied Vector (299 ∷ 46 ∷ 45 ∷ [])) { version = 1 }
@@ -214,7 +214,7 @@ capped_buckets = record { as_told = refl; in_full = refl; vector_as_told = refl;
 abbrev old_write : Deck
 old_write = aired_in 2 (deck (item 10 1 ∷ []) (update [] (set_to 0 11 ∷ []) ∷ []) (0, 0, 1) [] (s ∷ u ∷ replicate 256 s))
 
--- The bytes of its entry in a cycle, as a bucket of this version tells it.
+-- The bytes of its entry in a cycle, as a bucket of this version gives it.
 abbrev entry_in : ℕ → ℕ → List ℕ
 entry_in version c = drop 24 (spelling (bucket_of (values_in old_write) (air_of old_write) (script_history old_write) version c 0))
 

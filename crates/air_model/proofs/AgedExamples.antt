@@ -1,5 +1,5 @@
--- Sessions over buckets of version 2, computed: which reads lie too far apart, what an aged attempt leaves, and how both versions
--- are heard side by side. Those of a history are given by both judges.
+-- Sessions over buckets of version 2, computed: which reads are too far apart, what an aged attempt leaves, and how both
+-- versions are heard together. Those of a history are given by both judges.
 use Rattle.std.specs.Prelude.{◌≡◌, ℕ, ◌+◌, ◌*◌, List, [], ◌∷◌, Option, Some, replicate, refl}
 use Rattle.air_base.specs.declared.verdicts.Policy.{Policy}
 use Rattle.air_base.specs.declared.verdicts.Policy.TheVariants.{FMatrix, Datacycle, RMatrix}
@@ -22,7 +22,7 @@ use Rattle.air_model.specs.Airings.{disk_number, chunks_of, pix_number}
 use Rattle.air_model.specs.Decks.{Deck, event_of, script_history}
 use Rattle.air_model.specs.Aired.{body_fits, fits}
 use Rattle.air_model.specs.Judges.{by_history, by_entries}
-use Rattle.air_model.specs.Sessions.{Line, abort, accept_if_whole, copy_of, count_copied, count_dozed, count_foreign, count_late, count_opened, count_refused, decide, drop_copy, end, end_aged, end_query, hear, hear_all, hear_read, hold, is_unusable, judge_read, line_of, next_attempt, next_query, offer, open_bucket, query_of, session, settle, turn, turn_with, wanted, with_line}
+use Rattle.air_model.specs.Sessions.{SessionLine, abort, accept_if_whole, copy_of, count_copied, count_dozed, count_foreign, count_late, count_opened, count_refused, decide, drop_copy, end, end_aged, end_query, hear, hear_all, hear_read, hold, is_unusable, judge_read, line_of, next_attempt, next_query, offer, open_bucket, query_of, session, settle, turn, turn_with, wanted, with_line}
 use Rattle.air_model.proofs.SessionExamples.{aired_in, bucket, by_both, counts_with, deck, item, judged_by, line, over, read, s}
 
 -- Two items of one rate, and a reader with its queries; version 2.
@@ -37,11 +37,11 @@ both_items = two_items (0, 0, 1) ((0 ∷ 1 ∷ []) ∷ [])
 abbrev aged_bucket : ℕ → ℕ → Body → Option Bucket
 aged_bucket c slot body = Some (record { version = 2; edition = 0; cycle = c; slot = slot; body = body })
 
--- Of one of the two items, in its slot, with these entries in its column.
+-- A bucket of one of the two items, in its slot, with these entries in its column.
 abbrev column : ℕ → ℕ → List ℕ → Option Bucket
 column i c entries = aged_bucket c i (Column i (10 * (i + 1)) entries)
 
--- Of one of the two items without a writer: the ages are caps.
+-- A bucket of one of the two items without a writer: the ages are caps.
 abbrev young : ℕ → ℕ → Option Bucket
 young i c = column i c (0 ∷ 0 ∷ [])
 
@@ -50,37 +50,37 @@ abbrev young_vector : ℕ → ℕ → Option Bucket
 young_vector i c = aged_bucket c i (Vector i (10 * (i + 1)) (0 ∷ 0 ∷ []))
 
 -- The session by the entries under F-Matrix, and under another policy.
-abbrev heard_by : Deck → List (Option Bucket) → List Line × Counts
+abbrev heard_by : Deck → List (Option Bucket) → List SessionLine × Counts
 heard_by d heard = over (by_entries (scheme_of FMatrix)) d heard
 
-abbrev heard_under : Policy → Deck → List (Option Bucket) → List Line × Counts
+abbrev heard_under : Policy → Deck → List (Option Bucket) → List SessionLine × Counts
 heard_under policy d heard = over (by_entries (scheme_of policy)) (judged_by policy d) heard
 
 -- The line of reads of item 0 in one cycle and item 1 in another: accepted, or aged with the second read.
-abbrev accepted : ℕ → ℕ → Line
+abbrev accepted : ℕ → ℕ → SessionLine
 accepted c d = line 0 1 Accept (read 0 c 10 ∷ read 1 d 20 ∷ [])
 
-abbrev aged : ℕ → ℕ → Line
+abbrev aged : ℕ → ℕ → SessionLine
 aged c d = line 0 1 (Aged 1 d) (read 0 c 10 ∷ [])
 
--- ---- which reads lie too far apart
+-- ---- which reads are too far apart
 
 pub record Spans : Type 0 where
-  -- 255 cycles are too far, and 254 aren't, whether cycles rise or fall
+  -- 255 cycles are too far, and 254 aren't, with rising or falling cycles
   apart : heard_by both_items (young 0 1 ∷ young 1 256 ∷ []) ≡ (aged 1 256 ∷ [], counts_with 2 0 0)
   together : heard_by both_items (young 0 1 ∷ young 1 255 ∷ []) ≡ (accepted 1 255 ∷ [], counts_with 2 0 0)
   fallen_apart : heard_by both_items (young 0 300 ∷ young 1 45 ∷ []) ≡ (aged 300 45 ∷ [], counts_with 2 0 0)
   fallen_together : heard_by both_items (young 0 300 ∷ young 1 46 ∷ []) ≡ (accepted 300 46 ∷ [], counts_with 2 0 0)
-  -- under Datacycle too; under R-Matrix an older read is late before it is aged, and a newer one is aged
+  -- the same under Datacycle; under R-Matrix an older read is late before it is aged, and a newer one is aged
   datacycle : heard_under Datacycle both_items (young_vector 0 300 ∷ young_vector 1 45 ∷ []) ≡ (aged 300 45 ∷ [], counts_with 2 0 0)
   datacycle_together : heard_under Datacycle both_items (young_vector 0 300 ∷ young_vector 1 46 ∷ []) ≡ (accepted 300 46 ∷ [], counts_with 2 0 0)
   late_first : heard_under RMatrix both_items (young_vector 0 300 ∷ young_vector 1 1 ∷ [])
       ≡ (line 0 1 Unfinished (read 0 300 10 ∷ []) ∷ [], record { opened = 1; dozed = 0; late = 1; refused = 0; foreign = 0; copied = 0 })
   r_matrix : heard_under RMatrix both_items (young_vector 0 1 ∷ young_vector 1 256 ∷ []) ≡ (aged 1 256 ∷ [], counts_with 2 0 0)
-  -- the span is asked before the clash: item 0 was written in cycle 255
+  -- the span is tested before the clash: item 0 was written in cycle 255
   span_first : heard_by both_items (young 0 1 ∷ column 1 256 (255 ∷ 0 ∷ []) ∷ []) ≡ (aged 1 256 ∷ [], counts_with 2 0 0)
   then_clash : heard_by both_items (young 0 1 ∷ column 1 255 (254 ∷ 0 ∷ []) ∷ []) ≡ (line 0 1 (Abort 1 255 0) (read 0 1 10 ∷ []) ∷ [], counts_with 2 0 0)
-  -- in version 1 no reads lie too far apart
+  -- in version 1 no reads are too far apart
   in_full : heard_by (aired_in 1 both_items) (bucket 1 0 (Column 0 10 (0 ∷ 0 ∷ [])) ∷ bucket 256 1 (Column 1 20 (0 ∷ 0 ∷ [])) ∷ []) ≡ (accepted 1 256 ∷ [], counts_with 2 0 0)
   -- of three reads the oldest and the newest count, and not the last two
   three_reads : heard_by (aired_in 2 (deck (item 10 1 ∷ item 20 1 ∷ item 30 1 ∷ []) [] (0, 0, 1) ((0 ∷ 1 ∷ 2 ∷ []) ∷ []) []))
@@ -111,7 +111,8 @@ pub record Versions : Type 0 where
   older_heard : heard_by both_items (bucket 1 0 (Column 0 10 (0 ∷ 0 ∷ [])) ∷ bucket 1 1 (Column 1 20 (0 ∷ 0 ∷ [])) ∷ []) ≡ (accepted 1 1 ∷ [], counts_with 2 0 0)
   newer_foreign : heard_by (aired_in 1 both_items) (young 0 1 ∷ young 1 1 ∷ [])
       ≡ (line 0 1 Unfinished [] ∷ [], record { opened = 0; dozed = 0; late = 0; refused = 0; foreign = 2; copied = 0 })
-  -- what was heard in full is judged with what was heard by age: item 0 was written in cycle 1, and then in 99, or in 100
+  -- what was heard in full is judged together with what was heard by age: item 0 was written in cycle 1, and then in cycle 99
+  -- or 100
   mixed : heard_by both_items (bucket 100 0 (Column 0 10 (1 ∷ 1 ∷ [])) ∷ column 1 300 (99 ∷ 0 ∷ []) ∷ []) ≡ (accepted 100 300 ∷ [], counts_with 2 0 0)
   mixed_clash : heard_by both_items (bucket 100 0 (Column 0 10 (1 ∷ 1 ∷ [])) ∷ column 1 300 (100 ∷ 0 ∷ []) ∷ [])
       ≡ (line 0 1 (Abort 1 300 0) (read 0 100 10 ∷ []) ∷ [], counts_with 2 0 0)
@@ -126,20 +127,21 @@ versions = record { older_heard = refl; newer_foreign = refl; mixed = refl; mixe
 abbrev asks_twice : Deck
 asks_twice = two_items (2, 10000, 1) ((0 ∷ []) ∷ (1 ∷ 0 ∷ []) ∷ [])
 
--- Queries of both items, and then of item 1, with so many tries.
+-- Queries of both items, and then of item 1, with this many tries.
 abbrev tries : ℕ → Deck
 tries n = two_items (2, 10000, n) ((0 ∷ 1 ∷ []) ∷ (1 ∷ []) ∷ [])
 
 pub record Copies : Type 0 where
-  -- a copy that lies too far from the held reads is dropped, and a nearer one is used
+  -- a copy that is too far from the held reads is dropped, and a nearer one is used
   copy_used : heard_by asks_twice (young 0 1 ∷ young 1 255 ∷ young 0 255 ∷ [])
       ≡ (line 0 1 Accept (read 0 1 10 ∷ []) ∷ line 1 1 Accept (read 1 255 20 ∷ read 0 1 10 ∷ []) ∷ [], counts_with 2 1 1)
   copy_dropped : heard_by asks_twice (young 0 1 ∷ young 1 256 ∷ young 0 256 ∷ [])
       ≡ (line 0 1 Accept (read 0 1 10 ∷ []) ∷ line 1 1 Accept (read 1 256 20 ∷ read 0 256 10 ∷ []) ∷ [], counts_with 3 0 0)
-  -- an aged attempt drops no copy: that of item 0 is used in the next attempt, in which that of item 1 is too far and is dropped
+  -- an aged attempt drops no copy: the copy of item 0 is used in the next attempt, in which that of item 1 is too far and is
+  -- dropped
   all_kept : heard_by (tries 2) (young 0 1 ∷ young 1 256 ∷ young 1 200 ∷ [])
       ≡ (aged 1 256 ∷ line 0 2 Accept (read 0 1 10 ∷ read 1 200 20 ∷ []) ∷ line 1 1 Accept (read 1 200 20 ∷ []) ∷ [], counts_with 3 0 2)
-  -- the read that ended it is offered: the next query is answered from its copy
+  -- the read that ended it is offered to the copies: the next query is answered from its copy
   offered : heard_by (tries 1) (young 0 1 ∷ young 1 256 ∷ young 1 200 ∷ [])
       ≡ (aged 1 256 ∷ line 1 1 Accept (read 1 256 20 ∷ []) ∷ [], counts_with 2 1 1)
 

@@ -1,4 +1,4 @@
--- The buckets of a history: they are those that fit and are the history's, they are in range, and their bytes are read back.
+-- The buckets of a history are those that fit and are the history's; they are in range, and their bytes are read back.
 use Rattle.std.proofs.Common.{◌≡◌, ℕ, zero, suc, ◌+◌, ◌-◌, ◌<◌, ◌≤◌, true, ◌==◌, Option, Some, None, List, [], ◌∷◌, length, map, get_or, refl, sym, ◌∙◌, ap, subst, inl, inr, arith, ◌↔◌, All}
 use Rattle.std.specs.Prelude.{Contains, IfSome, IsTrue}
 use Rattle.std.specs.List.{flat_map, range_with_len}
@@ -127,7 +127,7 @@ own_version : (values : List ℕ) (air : Air) (H : List Event) (v c s : ℕ) →
 unfolding bucket_of
 own_version values air H v c s = refl
 
--- What it is for a bucket to fit.
+-- What it means that a bucket fits.
 pub record Fits (air : Air) (b : Bucket) : Type 0 where
   pub version : b.version ≤ air.version
   pub edition : b.edition ≡ edition_at air b.cycle

@@ -1,4 +1,4 @@
--- A whole run of two updaters and two cycles: what it is, and what its buckets carry; and what isn't one.
+-- A whole run of two updaters and two cycles: what it is, what its buckets carry, and what is no such run.
 use Rattle.std.proofs.Common.{◌≡◌, ℕ, zero, suc, ◌<◌, ◌^◌, true, false, Some, List, [], ◌∷◌, All, refl, sym, ap, subst, arith, Contains, sum_by}
 use Rattle.std.specs.Prelude.{slice_get}
 use Rattle.std.proofs.lemmas.List.Elements.{All-from_recursion}
@@ -69,7 +69,7 @@ run_with seen_last = record { history = history; batches = both_batches; glances
 is_run : IsRun two (run_with (line 2 32))
 is_run = record { whole = is_whole; glances = glances; looks = looks }
 
--- Not where the last look is of an earlier cycle, nor where an updater made nothing, nor where a cycle is missing.
+-- It is no run if the last look is of an earlier cycle, if an updater made nothing, or if a cycle is missing.
 not_run : (IsRun two (run_with (line 1 31)) → ⊥) × (IsRun two (record (run_with (line 2 32)) { history = first ∷ Start ∷ Start ∷ [] }) → ⊥)
     × (IsRun two (record (run_with (line 2 32)) { history = first ∷ second ∷ Start ∷ [] }) → ⊥)
 unfolding is_by is_start starts
@@ -85,7 +85,7 @@ not_run = (
 abbrev bucket : ℕ → ℕ → ℕ → Bucket
 bucket cycle item value = record { version = 1; edition = 0; cycle = cycle; slot = item; body = Column item value (0 ∷ 0 ∷ []) }
 
--- A bucket carries its own item in its own cycle alone; an idle one carries none.
+-- A bucket carries only its own item in its own cycle; an idle bucket carries none.
 carried : (carries_in 1 0 (bucket 1 0 11) ≡ true) × (carries_in 2 0 (bucket 1 0 11) ≡ false) × (carries_in 1 1 (bucket 1 0 11) ≡ false)
     × (carries_in 1 0 (record { version = 1; edition = 0; cycle = 1; slot = 0; body = Idle 2 }) ≡ false)
 carried = (refl, refl, refl, refl)
@@ -103,7 +103,7 @@ aired_all = by_batches.aired
 airs : AirsItems two history (buckets_of (values_in two) (air_of two) history)
 airs = items_aired two history two_is_deck
 
--- Not by the buckets of the first cycle alone, nor by those of the second alone.
+-- The buckets of only the first cycle, or of only the second, don't air the items.
 not_airs : (AirsItems two history (bucket 1 0 11 ∷ bucket 1 1 20 ∷ []) → ⊥) × (AirsItems two history (bucket 2 0 11 ∷ bucket 2 1 21 ∷ []) → ⊥)
 unfolding is_start starts cut order order_with
 not_airs = (
@@ -123,7 +123,7 @@ once : IsAiredItem on_two_disks 1 1 (bucket 1 0 10 ∷ bucket 1 1 20 ∷ bucket 
 unfolding cut order order_with
 once = record { number = 1; disk = record { items = 1 ∷ []; freq = 1 }; there = refl; on = (0, omega arith, refl); times = refl }
 
--- Item 1 twice is none: the disk that is aired twice has item 0 alone.
+-- Two airings of item 1 are wrong: the disk that is aired twice has only item 0.
 not_twice : IsAiredItem on_two_disks 1 1 (bucket 1 1 20 ∷ bucket 1 1 20 ∷ []) → ⊥
 unfolding cut order order_with
 not_twice h = never h.number h.disk h.there h.on h.times

@@ -1,4 +1,4 @@
--- What comes after a history airs only more buckets.
+-- Events after a history only air more buckets.
 use Rattle.std.proofs.Common.{◌≡◌, ℕ, zero, suc, ◌+◌, ◌<◌, List, [], ◌∷◌, ◌++◌, length, map, refl, ◌∙◌, ap, arith}
 use Rattle.std.specs.List.{flat_map, range_with_len}
 use Rattle.std.proofs.lemmas.Grind.{flat_map-append}
@@ -32,7 +32,7 @@ pub map_same : {X : Type 0} (f g : ℕ → X) (xs : List ℕ) → ((s : ℕ) →
 map_same f g [] h = refl
 map_same f g (x ∷ xs) h = ap (λ y. y ∷ map f xs) (h x) ∙ ap (λ l. g x ∷ l) (map_same f g xs h)
 
--- What is aired behind a history: the cycles that the events behind it start.
+-- What is aired after a history: the cycles that the events after it start.
 pub buckets_behind : (values : List ℕ) (air : Air) (H after : List Event) → buckets_of values air (H ++ after)
     ≡ buckets_of values air H ++ flat_map (cycle_buckets values air (H ++ after)) (range_with_len (1 + starts H) (starts after))
 unfolding buckets_of

@@ -1,4 +1,4 @@
--- By the history a session is the same without heard values and entries: each rule commutes with leaving them out.
+-- By the history a session is the same without heard values and entries: each rule commutes with removing them.
 use Rattle.std.proofs.Common.{◌≡◌, ℕ, zero, suc, ◌+◌, ◌-◌, max, Bool, true, false, cond, ◌||◌, ◌&&◌, ◌==◌, nat_le, nat_lt, Option, Some, None, List, [], ◌∷◌, ◌++◌, length, map, get_or, refl, sym, ◌∙◌, ap, not}
 use Rattle.std.specs.Prelude.{count_by, sum_by}
 use Rattle.std.specs.List.{filter, find, slice_get}
@@ -22,7 +22,7 @@ use Rattle.air_model.specs.Copies.{goes_before, keep, with_copy, without_item}
 use Rattle.air_model.specs.Airings.{carries}
 use Rattle.air_model.specs.Aired.{Air, airs_columns, body_fits, edition_at, fits, pix_at, slots_at}
 use Rattle.air_model.specs.Judges.{Judge, by_history, place_of}
-use Rattle.air_model.specs.Sessions.{Reader, Line, State, start, read_in, is_wanted, wanted, comes_aged, comes_late, query_of, next_query, next_attempt, copy_of, drop_copy, offer, line_of, with_line, count_copied, count_opened, count_dozed, count_late, count_refused, count_foreign, accept_if_whole, hold, abort, is_unusable, turn_with, turn, settle, decide, end_aged, judge_read, open_bucket, hear_read, hear, hear_all, end_query, end, session}
+use Rattle.air_model.specs.Sessions.{Reader, SessionLine, State, start, read_in, is_wanted, wanted, comes_aged, comes_late, query_of, next_query, next_attempt, copy_of, drop_copy, offer, line_of, with_line, count_copied, count_opened, count_dozed, count_late, count_refused, count_foreign, accept_if_whole, hold, abort, is_unusable, turn_with, turn, settle, decide, end_aged, judge_read, open_bucket, hear_read, hear, hear_all, end_query, end, session}
 use Rattle.air_model.specs.SessionLaws.{are_far, bare, bare_body}
 
 -- The read without its value, and with 0 for each entry.
@@ -140,7 +140,7 @@ module _ (V : List ℕ) (air : Air) (H : List Event) (reader : Reader) where
 
   line_bare : (q a : ℕ) (kind : VerdictKind) (R : List Read) → line_of judge q a kind (map bare_read R) ≡ line_of judge q a kind R
   unfolding line_of by_history bare_read
-  line_bare q a kind R = ap (λ rs. let l : Line = record { verdict = record { query = q; attempt = a; kind = kind }; reads = rs } in l)
+  line_bare q a kind R = ap (λ rs. let l : SessionLine = record { verdict = record { query = q; attempt = a; kind = kind }; reads = rs } in l)
       (map-map (λ r. let x : ReadOf = record { item = r.item; cycle = r.cycle; value = read_value (values_of V) H (place_of r) } in x) bare_read R)
 
   with_line_bare : (kind : VerdictKind) (s : State) → with_line judge kind (bare_state s) ≡ bare_state (with_line judge kind s)

@@ -33,7 +33,7 @@ flat_next f a zero = refl
 flat_next f a (suc n) = ap (λ l. f (a + 1) ++ l) (flat_next f (a + 1) n)
 
 module _ (values : List ℕ) (air : Air) where
-  -- A history with one start more airs the cycle that it starts.
+  -- A history with one more start airs also the cycle that this one starts.
   one_more : (G b : List Event) → starts b ≡ 1 → buckets_of values air (G ++ b) ≡ buckets_of values air G ++ last_buckets values air (G ++ b)
   one_more G b one =
       let cycle : ℕ → List Bucket = cycle_buckets values air (G ++ b) in
@@ -43,7 +43,7 @@ module _ (values : List ℕ) (air : Air) where
       ∙ ap (λ l. buckets_of values air G ++ l) (append-nil (cycle (1 + starts G)))
       ∙ ap (λ c. buckets_of values air G ++ cycle c) last
 
-  -- Behind a history its batches air their cycles.
+  -- After a history its batches air their cycles.
   all_more : (G : List Event) (bs : List (List Event)) → All EndsWithStart bs
       → buckets_of values air (G ++ events_in bs) ≡ buckets_of values air G ++ flat_map (λ n. last_buckets values air (G ++ events_in (take n bs))) (range_with_len 1 (length bs))
   all_more G [] all = ap (buckets_of values air) (append-nil G) ∙ sym (append-nil (buckets_of values air G))
@@ -72,7 +72,7 @@ module _ (values : List ℕ) (air : Air) where
   pub joined_air : (bs : List (List Event)) → All EndsWithStart bs → buckets_of values air (events_in bs) ≡ aired_by values air bs
   joined_air bs all = all_more [] bs all ∙ ap (λ l. l ++ aired_by values air bs) none_aired
 
--- Batches air the history that they make, whatever comes behind without a start.
+-- Batches air the history that they make, also with any events after it that have no start.
 pub airs_by_batches : (deck : Deck) (batches : List (List Event)) (rest : List Event) → All EndsWithStart batches → starts rest ≡ 0 → AirsByBatches deck (events_in batches ++ rest) batches
 airs_by_batches deck batches rest all none =
     let values = values_in deck in
@@ -86,7 +86,7 @@ airs_by_batches deck batches rest all none =
       aired = same_buckets values air (events_in batches) rest none ∙ joined_air values air batches all;
     }
 
--- So they do where the history goes on without a start.
+-- They also do if the history continues without a start.
 pub airs_further : (deck : Deck) (seen H : List Event) (batches : List (List Event)) → GoesOnWithout is_start seen H → AirsByBatches deck seen batches → AirsByBatches deck H batches
 unfolding starts
 airs_further deck seen H batches (others, is, none) by =

@@ -85,7 +85,7 @@ module _ (deck : Deck) (H : List Event) where
   missing_starts (suc n) = let both = starts_append (missing n) (rest n) in
       omega (arith, both, missing_starts n, commits_start_none n (count_made n H) (drop (count_made n H) (updates_by deck n)))
 
--- So many starts.
+-- n starts.
 abbrev some_starts : ℕ → List Event
 some_starts zero = []
 some_starts (suc n) = Start ∷ some_starts n

@@ -36,20 +36,20 @@ each_fault :
 unfolding reading is_shaped is_entry is_placed entry_count entries_at raw_entries entry_told bucket_at body_at
 each_fault = (refl, refl, refl, refl, refl, refl)
 
--- A count of 0 is judged by the number of bytes first; an idle slot has no value.
+-- The number of bytes is tested before a count of 0; an idle slot has no value.
 first_fault_counts :
     (reading (set first_bytes 7 0) ≡ Err Length) × (reading (take 24 (set first_bytes 7 0)) ≡ Err Shape) × (reading (set idle_bytes 23 1) ≡ Err Shape)
 unfolding reading is_shaped is_entry is_placed entry_count entries_at raw_entries entry_told bucket_at body_at
 first_fault_counts = (refl, refl, refl)
 
--- The fault alone, of bytes with one and of bytes with none.
+-- The fault of bytes with one, and of bytes without.
 fault_alone : (fault_of (take 23 first_bytes) ≡ Some (Short 23)) × (fault_of first_bytes ≡ None)
 unfolding reading is_shaped is_entry is_placed entry_count entries_at raw_entries entry_told bucket_at body_at
 fault_alone = (refl, refl)
 
 -- ---- a bucket whose numbers all differ
 
--- Of an edition, with a column and with a vector.
+-- A bucket of an edition, with a column and with a vector.
 abbrev varied_bucket : (ℕ → ℕ → List ℕ → Body) → Bucket
 varied_bucket kind = record { version = 1; edition = 3; cycle = 0x01020304; slot = 5; body = kind 2 0x0102030405060708 (7 ∷ 8 ∷ 9 ∷ []) }
 
@@ -81,7 +81,7 @@ most_items : (reading (set (set idle_bytes 6 1) 7 0) ≡ Ok (record idle { body 
 unfolding reading is_shaped is_entry is_placed entry_count entries_at raw_entries entry_told bucket_at body_at
 most_items = (refl, refl)
 
--- ---- of two faults the first is told: a letter before the version, that before the kind, that before the length, and that before the ranges
+-- ---- of two faults the first is reported: letter, version, kind, length, ranges, in this order
 first_of_two :
     (reading (set (set first_bytes 0 0x45) 2 3) ≡ Err Magic) × (reading (set (set first_bytes 2 3) 3 3) ≡ Err Version)
     × (reading (set first_bytes 3 3 ++ 0 ∷ []) ≡ Err Kind) × (reading (set first_bytes 31 1 ++ 0 ∷ []) ≡ Err Length)

@@ -1,4 +1,5 @@
--- A bucket as its flat fields (`FieldLemmas`): it is spelled as they are, and each is made of the other, in range together.
+-- A bucket and its flat fields (`FieldLemmas`): they have one spelling, each is made from the other, and they are in range
+-- together.
 use Rattle.std.proofs.Common.{◌≡◌, ◌⊎◌, inl, inr, ◌≤◌, ◌<◌, ◌^◌, ◌++◌, ◌&&◌, ◌==◌, if◌then◌else◌, nat_lt, ℕ, zero, suc, Bool, true, List, [], ◌∷◌, get_or, map, length, slice_index, refl, sym, ◌∙◌, ap, subst, arith}
 use Rattle.std.specs.Prelude.{All}
 use Rattle.std.proofs.Math.Dec.{eqb-suc-zero}
@@ -31,7 +32,7 @@ entries_for f = map (entry_told f.version f.cycle) f.numbers
 abbrev pub bucket_from : Fields → Bucket
 bucket_from f = record { version = f.version; edition = f.edition; cycle = f.cycle; slot = f.slot; body = body_from f.kind f.count f.item f.value (entries_for f) }
 
--- What a bucket in range tells of its entries.
+-- What holds of the entries of a bucket in range.
 all_told : (b : Bucket) → IsInRange b → All (IsTold b.version b.cycle) (entries_of b.body)
 all_told b r k d l = record { below = r.entries k d l; young = λ ages. r.told ages k d l }
 
@@ -61,7 +62,7 @@ bucket_back b r =
     ap (λ (body : Body). let t : Bucket = record { version = v; edition = b.edition; cycle = b.cycle; slot = b.slot; body = body } in t)
     (ap (body_from (kind_of y) (count_of y) (item_of y) (value_of y)) same ∙ body_back y)
 
--- The bucket of the bytes is that of their fields.
+-- The body read from bytes is that of their fields.
 body_is : (v c k : ℕ) (bytes : List ℕ) → body_at v c k bytes
     ≡ body_from k (number_at 6 2 bytes) (number_at 14 2 bytes) (number_at 16 8 bytes) (map (entry_told v c) (raw_entries v (entry_count k (number_at 6 2 bytes)) bytes))
 unfolding body_at body_from entries_at entry_count

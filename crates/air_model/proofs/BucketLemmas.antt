@@ -17,12 +17,12 @@ whole_from_bucket bytes b h =
     let e : bytes ≡ bytes_of (bucket_fields b) = h.1 ∙ spelling_is b h.0 in
     (subst IsWhole (sym e) (whole_bytes (bucket_fields b) r), bucket_is bytes ∙ ap bucket_from (ap fields_of e ∙ read_back (bucket_fields b) r) ∙ bucket_back b h.0)
 
--- The bucket of bytes without a fault has the fields at their places: so its numbers can be read there.
+-- The bucket of bytes without a fault has the fields at their places, so its numbers can be read there.
 pub fields_back : (bytes : List ℕ) → IsWhole bytes → bucket_fields (bucket_at bytes) ≡ fields_of bytes
 unfolding fields_of
 fields_back bytes w = ap bucket_fields (bucket_is bytes) ∙ fields_of_back (fields_of bytes) w.kind (numbers_long bytes) (sym (shaped_is bytes) ∙ w.shaped)
 
--- And its entries are those for which the numbers at their places stand.
+-- Its entries are those for which the numbers at their places stand.
 pub entries_read : (bytes : List ℕ) → IsWhole bytes → entries_of (bucket_at bytes).body ≡ entries_at (slice_index bytes 2) (number_at 8 4 bytes) (entry_count (slice_index bytes 3) (number_at 6 2 bytes)) bytes
 unfolding fields_of entries_at
 entries_read bytes w =

@@ -1,5 +1,5 @@
 -- The one spelling of a number in big-endian bytes.
--- `one_spelling` says that bytes are the spelling of the number that they read as; the buckets and the tapes stand on it.
+-- `one_spelling` says that bytes are the spelling of the number that they read as; buckets and tapes use it.
 use Rattle.std.proofs.Common.{◌≡◌, ◌≤◌, ◌<◌, ◌+◌, ◌*◌, ◌^◌, ◌/◌, ℕ, zero, suc, List, [], ◌∷◌, length, take, get_or, sym, ◌∙◌, ap, subst, arith, refl}
 use Rattle.std.proofs.lemmas.Nat.{div-mul-add}
 use Rattle.std.proofs.Math.Nat.{mod-lt}
@@ -9,7 +9,7 @@ use Rattle.byteorder.specs.Endian.{big_from, big_number, big_bytes}
 use Rattle.byteorder.specs.Numbers.{big_from-cons, big_from-lt, big_from-take, big_number-reads_back, length-bytes_high_first}
 use Rattle.air_model.specs.Buckets.{AreBytes}
 
--- Each is a byte, and past the end there is 0: so a byte slice says it.
+-- Each element is a byte, and after the end there is 0; this is how a byte slice is seen.
 abbrev pub AllBytes : List ℕ → Type 0
 AllBytes xs = (i : ℕ) → get_or xs i 0 < 256
 
@@ -24,14 +24,14 @@ are_bytes xs all k d below = subst (λ x. x < 256) (get_or_default xs k 0 d belo
 pub rest_bytes : (x : ℕ) (xs : List ℕ) → AllBytes (x ∷ xs) → AllBytes xs
 rest_bytes x xs all i = all (suc i)
 
--- A digit and what is below its place.
+-- A digit and what is below its place are determined by their sum.
 same_digit : (x y p m k : ℕ) → m < p → k < p → x * p + m ≡ y * p + k → (x ≡ y) × (m ≡ k)
 same_digit x y p m k small tiny same =
     let digit : x ≡ y = sym (div-mul-add x p m small) ∙ ap (λ v. v / p) same ∙ div-mul-add y p k tiny in
     let low = rw digit at same in
     (digit, omega arith)
 
--- As many bytes with the same number are the same.
+-- Equally many bytes with the same number are equal.
 same_bytes : (n : ℕ) (xs ys : List ℕ) → length xs ≡ n → length ys ≡ n → AllBytes xs → AllBytes ys → big_from 0 n xs ≡ big_from 0 n ys → xs ≡ ys
 same_bytes zero [] [] a b all every same = refl
 same_bytes zero (x ∷ xs) ys a b all every same = absurd (omega arith)
@@ -62,7 +62,7 @@ front_bytes (suc m) [] each i = each i
 front_bytes (suc m) (x ∷ l) each zero = each 0
 front_bytes (suc m) (x ∷ l) each (suc i) = front_bytes m l (λ k. each (suc k)) i
 
--- The front of the bytes is the one spelling of the number that they read as.
+-- The first n bytes are the one spelling of the number that they read as.
 pub one_spelling : (n : ℕ) (xs : List ℕ) → n ≤ length xs → AllBytes xs → take n xs ≡ big_bytes n (big_number n xs)
 one_spelling n xs room all =
     let number = big_number n xs in

@@ -1,4 +1,5 @@
--- Entries as a bucket's version tells them: how many they are, below what they lie, and that each is told as it is; bodies with them.
+-- Entries as a bucket's version gives them: how many they are, their bound, and that giving them twice changes nothing; bodies
+-- with such entries.
 use Rattle.std.proofs.Common.{◌≡◌, ◌&&◌, ◌==◌, ℕ, ◌-◌, ◌<◌, Bool, true, false, not, cond, if◌then◌else◌, nat_lt, Option, List, [], length, map, get_or, All, refl, sym, ap, subst, inl, inr}
 use Rattle.std.specs.Prelude.{IfSome, IsTrue}
 use Rattle.std.specs.Option.{option_map_or}
@@ -19,7 +20,7 @@ either_none : (b : Bool) → ◌≡◌ {A = ℕ} (cond b 0 0) 0
 either_none true = refl
 either_none false = refl
 
--- What an age tells is told as it is.
+-- Capping an entry twice is capping it once.
 pub capped_twice : (e c : ℕ) → capped (capped e c) c ≡ capped e c
 unfolding capped
 capped_twice e c = by (nat_lt (c - e) AGE_CAP) refl
@@ -30,7 +31,7 @@ capped_twice e c = by (nat_lt (c - e) AGE_CAP) refl
 
 -- ---- lists of entries
 
--- What holds of the entries by age and in full holds of them as a version tells them.
+-- What holds of entries capped and in full holds of them as a version gives them.
 pub entries_by : (P : List ℕ → Type 0) (v c : ℕ) (es : List ℕ) → P (map (λ e. capped e c) es) → P es → P (capped_entries v c es)
 unfolding capped_entries
 entries_by P v c es aged full = by (has_ages v)
@@ -103,7 +104,7 @@ fits_kept air o v c (Idle n) = refl
 fits_kept air o v c (Column i x es) = ap (λ n. carries i o && airs_columns air.scheme.policy && (n == air.items)) (capped_length v c es)
 fits_kept air o v c (Vector i x es) = ap (λ n. carries i o && not (airs_columns air.scheme.policy) && (n == air.items)) (capped_length v c es)
 
--- What is said of the read that a body gives, but not of its entries, is said of the read of the body as told.
+-- What holds of a body's read, apart from its entries, holds of the read of the capped body.
 pub value_told : (P : ℕ → ℕ → ℕ → Type 0) (v c d : ℕ) (y : Body) → IfSome (read_in d y) (λ r. P r.item r.cycle r.value) → IfSome (read_in d (capped_body v c y)) (λ r. P r.item r.cycle r.value)
 unfolding capped_body
 value_told P v c d (Idle n) h = h
@@ -118,7 +119,7 @@ item_told i v c d (Vector j x es) = refl
 
 -- ---- lists by edition
 
--- What holds of each member and of the empty list holds of the one at a place, whether there is one or not.
+-- What holds of each member and of the empty list holds of the member at any place, also after the end.
 pub at_or_none : {X : Type 0} (P : List X → Type 0) (xs : List (List X)) (k : ℕ) → All P xs → P [] → P (get_or xs k [])
 at_or_none P xs k h none = elim (cases_lt k (length xs)) as (λ _. P (get_or xs k [])) [
   | inl l ↦ h k [] l

@@ -1,4 +1,4 @@
--- Small lists, computed: from which a list goes on without commits of an updater, or without starts.
+-- Small lists, computed: whether a list continues another without commits of an updater, or without starts.
 use Rattle.std.specs.Prelude.{ℕ, [], ◌∷◌, None, false, refl}
 use Rattle.air_history.specs.declared.histories.Event.{Event}
 use Rattle.air_history.specs.declared.histories.Event.TheVariants.{Commit, Start}

@@ -18,7 +18,7 @@ use Rattle.air_model.specs.Closings.{GoesOnWithout}
 use Rattle.air_model.specs.RunClosings.{HaveMadeAll, HaveMadeSome, IsClosing}
 use Rattle.air_model.proofs.ListLemmas.{same_left, same_count}
 
--- ---- the station's own words
+-- ---- the station's own definitions
 
 -- A pass's own events are the history's
 own_made : (by : ℕ) (seen H : List Event) → GoesOnWithout (is_by by) seen H → made_by by H ≡ made_by by seen
@@ -32,7 +32,7 @@ own_starts seen H (others, is, none) = ap (count_by is_start) is ∙ same_count 
 pub closing_starts : (deck : Deck) (passes : List (List Event)) (conductor H : List Event) → IsClosing deck passes conductor H → starts H ≡ starts conductor
 closing_starts deck passes conductor H c = own_starts conductor H c.started
 
--- No one but the updaters commits
+-- Only updaters commit
 not_other : (n items by : ℕ) (e : Event) → n ≤ by → EventFits n items e → is_by by e ≡ false
 unfolding is_by EventFits
 not_other n items by Start l h = refl
@@ -81,7 +81,7 @@ unfolding commits_from
 length_commits by m [] = refl
 length_commits by m (u ∷ us) = let rest = length_commits by (suc m) us in omega arith
 
--- As many as were made
+-- The commits are of the first updates, as many as there are commits
 take_as_many : (by n : ℕ) (us : List UpdateLists) (l : List Event) → l ≡ commits_from by 0 (take n us) → l ≡ commits_from by 0 (take (length l) us)
 take_as_many by n us l e = e ∙ ap (commits_from by 0) (same n us (length l) (ap length e ∙ length_commits by 0 (take n us)))
   where

@@ -142,7 +142,7 @@ multiple_over_divides a (d ∷ ds) k some aired first each =
     multiple_over_divides (least_common_multiple a d.freq) ds k (least_common_pos a d.freq some pos) (λ n. aired (suc n))
     (least_common_divides a d.freq k some pos first (each 0 d refl)) (λ n. each (suc n))
 
--- The number of minor cycles is above zero, a common multiple, and divides each.
+-- The number of minor cycles is above zero and is a common multiple, and it divides each common multiple.
 pub num_minors_pos : (disks : List Disk) → AllAired disks → 0 < num_minors disks
 unfolding num_minors
 num_minors_pos disks aired = multiple_over_pos 1 disks (omega arith) aired

@@ -1,4 +1,4 @@
--- A newcomer is placed where there is room, evicts the least copy where it is not the least itself, and is declined else.
+-- A new copy is placed if there is room; otherwise it evicts the least copy, or is declined if it is the least itself.
 use Rattle.std.specs.Prelude.{◌≡◌, ℕ, List, [], ◌∷◌, refl}
 use Rattle.air_model.specs.Copies.{keep, with_copy, without_item}
 use Rattle.air_model.specs.Reads.{Read}
@@ -15,12 +15,12 @@ placed : keep 2 pix (with_copy (copy 1 7) (copy 0 5 ∷ [])) ≡ copy 0 5 ∷ co
 unfolding keep with_copy
 placed = refl
 
--- The new copy of an item stands where the old one stood.
+-- The new copy of an item is where the old one was.
 replaced : keep 2 pix (with_copy (copy 0 7) (copy 0 5 ∷ copy 1 6 ∷ [])) ≡ copy 0 7 ∷ copy 1 6 ∷ []
 unfolding keep with_copy
 replaced = refl
 
--- A copy of an item between two stands between theirs.
+-- A copy of an item between two others is between theirs.
 between : keep 3 pix (with_copy (copy 1 7) (copy 0 5 ∷ copy 3 6 ∷ [])) ≡ copy 0 5 ∷ copy 1 7 ∷ copy 3 6 ∷ []
 unfolding keep with_copy
 between = refl
@@ -39,7 +39,7 @@ no_room : keep 0 pix (with_copy (copy 1 7) []) ≡ []
 unfolding keep with_copy
 no_room = refl
 
--- The copies of the other items stay where one is dropped.
+-- If one copy is dropped, those of the other items stay.
 dropped : without_item 1 (copy 0 5 ∷ copy 1 6 ∷ copy 3 6 ∷ []) ≡ copy 0 5 ∷ copy 3 6 ∷ []
 unfolding without_item
 dropped = refl

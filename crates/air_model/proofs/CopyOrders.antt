@@ -1,5 +1,5 @@
--- The order of copies, and how many go before one: whoever goes before another has fewer before it.
--- `keep_all` and `keep_one` are the laws that the cache needs; `rank_less` is what sums and counts stand on.
+-- The order of copies, and how many go before one: a copy that goes before another has fewer before it. `keep_all` and
+-- `keep_one` are the laws that the cache needs; sums and counts use `rank_less`.
 use Rattle.std.proofs.Common.{◌≡◌, ℕ, zero, suc, ◌<◌, ◌≤◌, ◌+◌, Bool, true, false, cond, ◌&&◌, ◌==◌, ◌++◌, ◌⊎◌, inl, inr, nat_lt, List, [], ◌∷◌, length, get_or, All, refl, sym, ◌∙◌, ap, arith, IsTrue}
 use Rattle.std.specs.List.{filter, count_by}
 use Rattle.std.proofs.lemmas.Bool.{and_from, and_parts, cases_order, eq-eqb, or_cases, or_left, or_right, cond-false, cond-true, eqb-true, false_from_ne_true, false≢true, le-ltb, lt-ltb, ltb-true}
@@ -20,7 +20,7 @@ one_or_none : (b : Bool) → cond b 1 0 ≤ 1
 one_or_none true = omega arith
 one_or_none false = omega arith
 
--- Where an element fails, fewer pass than there are.
+-- If an element fails, fewer pass than there are.
 pub count_missing : (p : Read → Bool) (R : List Read) (k : ℕ) (d : Read) → k < length R → p (get_or R k d) ≡ false → count_by p R < length R
 count_missing p [] k d l e = absurd (omega arith)
 count_missing p (r ∷ R) zero d l e =
@@ -34,7 +34,7 @@ count_missing p (r ∷ R) (suc k) d l e =
     let sum = count_cons p r R in
     omega arith
 
--- Where all pass, that many pass.
+-- If all pass, the count is the length.
 pub count_all : (p : Read → Bool) (R : List Read) → All (λ r. p r ≡ true) R → count_by p R ≡ length R
 count_all p [] h = refl
 count_all p (r ∷ R) h =
@@ -49,7 +49,7 @@ follows false true h = omega arith
 follows true false h = absurd (false≢true (h refl))
 follows false false h = omega arith
 
--- Where each that passes p passes q, no more pass p.
+-- If each that passes p passes q, no more pass p.
 count_le : (p q : Read → Bool) (R : List Read) → ((x : Read) → p x ≡ true → q x ≡ true) → count_by p R ≤ count_by q R
 count_le p q [] h = omega arith
 count_le p q (r ∷ R) h =
@@ -59,7 +59,7 @@ count_le p q (r ∷ R) h =
     let two = count_cons q r R in
     omega arith
 
--- And fewer, where one passes q alone.
+-- Fewer pass p if one passes only q.
 count_less : (p q : Read → Bool) (R : List Read) (k : ℕ) (d : Read) → ((x : Read) → p x ≡ true → q x ≡ true) → k < length R → p (get_or R k d) ≡ false → q (get_or R k d) ≡ true
     → count_by p R < count_by q R
 count_less p q [] k d h l e f = absurd (omega arith)
@@ -119,7 +119,7 @@ onwards pix c b a e f = goes_to pix c a (by (goes_from pix c b e) (goes_from pix
     by (inr same) (inl less) = let s = same.0 in inl (omega arith)
     by (inr same) (inr again) = let s = same.0 in let t = again.0 in let u = same.1 in let v = again.1 in inr (omega arith, omega arith)
 
--- Of two copies of other items one goes before the other.
+-- Of two copies of different items one goes before the other.
 pub one_goes : (pix : List ℕ) (a b : Read) → (a.item ≡ b.item → ⊥) → (goes_before pix a b ≡ true) ⊎ (goes_before pix b a ≡ true)
 one_goes pix a b ne = by (cases_order (pix_of pix a) (pix_of pix b)) (cases_order a.item b.item)
   where
@@ -131,7 +131,7 @@ one_goes pix a b ne = by (cases_order (pix_of pix a) (pix_of pix b)) (cases_orde
     by (inl same) (inr (inl i)) = inl (goes_to pix a b (inr (sym same, i)))
     by (inl same) (inr (inr i)) = inr (goes_to pix b a (inr (same, i)))
 
--- Who goes before a copy has fewer before it.
+-- A copy that goes before another has fewer before it.
 pub rank_less : (pix : List ℕ) (copies : List Read) (k : ℕ) (d a : Read) → k < length copies → goes_before pix (get_or copies k d) a ≡ true → rank pix copies (get_or copies k d) < rank pix copies a
 rank_less pix copies k d a l e =
     count_less (λ c. goes_before pix c (get_or copies k d)) (λ c. goes_before pix c a) copies k d (λ c f. onwards pix c (get_or copies k d) a f e) l (itself pix (get_or copies k d)) e

@@ -1,6 +1,6 @@
--- How many copies stay, and that no choice of as many is worth more.
--- The ranks of copies of different items differ, so one copy has each rank; and some number lies between the PIX numbers of
--- the copies that stay and those of the others, which settles every sum (`keep_most`).
+-- How many copies stay, and that no choice of as many has a greater sum. The ranks of copies of different items differ, so one
+-- copy has each rank. Some number lies between the PIX numbers of the copies that stay and those of the others, from which
+-- every sum is compared (`keep_most`).
 use Rattle.std.proofs.Common.{◌≡◌, ◌≢◌, ℕ, zero, suc, ◌<◌, ◌≤◌, ◌+◌, ◌-◌, ◌*◌, Bool, true, false, cond, ◌==◌, ◌++◌, ◌⊎◌, inl, inr, nat_lt, List, [], ◌∷◌, length, get_or, All, refl, sym, ◌∙◌, ap, arith, IsPermutation}
 use Rattle.std.specs.Prelude.{min, max, AllPairs}
 use Rattle.std.specs.List.{filter, count_by, sum_by}
@@ -23,7 +23,7 @@ count_none p (r ∷ R) h =
     let sum = count_cons p r R in
     omega arith
 
--- Where no two places have one number, one place has it at most.
+-- No two places have the same number.
 abbrev Differ : (Read → ℕ) → List Read → Type 0
 Differ g R = (j k : ℕ) (d : Read) → j < length R → k < length R → g (get_or R j d) ≡ g (get_or R k d) → j ≡ k
 
@@ -44,7 +44,7 @@ count_one g v (r ∷ R) h = by (g r == v) refl (count_one g v R (λ j k d l m e.
         let sum = count_cons (λ x. g x == v) r R in
         omega arith
 
--- How many have a number below n, as n grows.
+-- How the count of numbers below n grows with n.
 below_next : (m n : ℕ) → cond (nat_lt m (n + 1)) 1 0 ≤ cond (nat_lt m n) 1 0 + cond (m == n) 1 0
 below_next m n = by (cases_lt m n) (cases_eq m n) (cases_lt m (n + 1))
   where
@@ -124,7 +124,7 @@ passing f (r ∷ R) = by (f r) refl (passing f R)
     by true e h = All-cons (λ r. f r ≡ true) r (filter f R) e h
     by false e h = h
 
--- Copies of lesser items, one, and copies of greater items stand by rising item.
+-- Copies of lesser items, one copy, and copies of greater items are together by rising item.
 rising : (x : Read) (A B : List Read) → HaveOwnItems A → HaveOwnItems B → All (λ r. r.item < x.item) A → All (λ r. x.item < r.item) B → HaveOwnItems (A ++ x ∷ B)
 rising x [] B a b below above = AllPairs-cons (λ a b. a.item < b.item) x B above b
 rising x (r ∷ A) B a b below above =
@@ -157,11 +157,11 @@ sum_kept f p (r ∷ R) =
     by true = sum_by-cons f r (filter p R)
     by false = omega arith
 
--- The number lies between what stays and what goes.
+-- The number m lies between what stays and what goes.
 abbrev Parts : (Read → ℕ) → (Read → Bool) → ℕ → Read → Type 0
 Parts f p m x = (p x ≡ true → m ≤ f x) × (p x ≡ false → f x ≤ m)
 
--- Where nothing that goes is above what stays, such a number is found.
+-- If nothing that goes is above what stays, such a number exists.
 between : (f : Read → ℕ) (p : Read → Bool) (R : List Read)
     → ((j k : ℕ) (d : Read) → j < length R → k < length R → p (get_or R j d) ≡ false → p (get_or R k d) ≡ true → f (get_or R j d) ≤ f (get_or R k d))
     → (m : ℕ) × All (Parts f p m) R
@@ -186,7 +186,7 @@ between f p (r ∷ R) h = by (p r) refl (between f p R (λ j k d l m. h (suc j) 
               (λ k d l. let x = t.1 k d l in ((λ g. max-le (x.0 g) (h 0 (suc k) d (omega arith) (omega arith) e g)), (λ g. let y = x.1 g in omega arith))),
         )
 
--- One choice against what stays of it, by such a number.
+-- By such a number, one chosen copy is compared with what stays of it.
 one_chosen : (f : Read → ℕ) (p : Read → Bool) (m : ℕ) (x : Read) → Parts f p m x → f x + m * cond (p x) 1 0 ≤ cond (p x) (f x) 0 + m
 one_chosen f p m x t = by (p x) refl
   where

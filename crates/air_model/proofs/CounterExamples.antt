@@ -1,5 +1,5 @@
--- Small decks, histories and heard lists of which a relation of the model doesn't hold, each for one reason; and a clash with the first of
--- two held reads.
+-- Small decks, histories and heard lists for which a relation of the model doesn't hold, each for one reason; and a clash with
+-- the first of two held reads.
 use Rattle.std.proofs.Common.{◌≡◌, ℕ, zero, suc, ◌<◌, ◌≤◌, ◌^◌, true, false, Some, None, Option, List, [], ◌∷◌, All, refl, ap, subst, arith, sum_by}
 use Rattle.std.specs.Prelude.{slice_get}
 use Rattle.std.proofs.lemmas.Bool.{false≢true}
@@ -27,7 +27,7 @@ use Rattle.air_model.specs.Judges.{by_entries, by_history}
 use Rattle.air_model.specs.Programs.{chunk, chunk_len, least_common_multiple, minor_cycle, num_chunks, num_minors, program}
 use Rattle.air_model.specs.ReceiverLaws.{IsTrueSession, session_of}
 use Rattle.air_model.specs.SessionLaws.{IsExactLine, IsOfReader, follows_query}
-use Rattle.air_model.specs.Sessions.{Line, abort, accept_if_whole, copy_of, count_copied, count_dozed, count_foreign, count_late, count_opened, count_refused, decide, drop_copy, end, end_aged, end_query, hear, hear_all, hear_read, hold, is_unusable, judge_read, line_of, next_attempt, next_query, offer, open_bucket, query_of, reader_of, session, settle, turn, turn_with, wanted, with_line}
+use Rattle.air_model.specs.Sessions.{SessionLine, abort, accept_if_whole, copy_of, count_copied, count_dozed, count_foreign, count_late, count_opened, count_refused, decide, drop_copy, end, end_aged, end_query, hear, hear_all, hear_read, hold, is_unusable, judge_read, line_of, next_attempt, next_query, offer, open_bucket, query_of, reader_of, session, settle, turn, turn_with, wanted, with_line}
 use Rattle.air_model.proofs.SessionExamples.{all_of, bucket, by_both, chained_deck, counts_with, deck, item, line, pair, read, s, set_to, swapped_deck, u, update}
 
 -- ---- decks and their histories
@@ -36,7 +36,7 @@ use Rattle.air_model.proofs.SessionExamples.{all_of, bucket, by_both, chained_de
 abbrev updating : List UpdateLists → Deck
 updating updates = record pair { updates = updates ∷ [] }
 
--- The two updates of an updater, of which the second puts 21 into item 1.
+-- The two updates of an updater, of which the second writes 21 to item 1.
 abbrev turned : Deck
 turned = swapped_deck []
 
@@ -44,7 +44,7 @@ abbrev second_update : UpdateLists
 second_update = update [] (set_to 1 21 ∷ [])
 
 pub record Decks : Type 0 where
-  -- no query is without an item, asks twice for one, or asks for one that there isn't; one item is enough
+  -- a query has an item, asks for none twice, and asks only for items that there are; one item is enough
   no_item : IsQuery 2 [] → ⊥
   item_twice : IsQuery 2 (0 ∷ 0 ∷ []) → ⊥
   item_past_the_last : IsQuery 2 (2 ∷ []) → ⊥
@@ -54,22 +54,22 @@ pub record Decks : Type 0 where
   most : IsUpdate 2 (update [] (set_to 1 18446744073709551615 ∷ []))
   -- so are values
   value_too_great : IsDeck (record pair { items = item 10 1 ∷ item (2 ^ 64) 1 ∷ [] }) → ⊥
-  -- the disks take all items, and each has one and is aired
+  -- the disks take all items, and each disk has an item and is aired
   item_on_no_disk : IsDeck (record pair { disks = record { size = 1; freq = 1 } ∷ [] }) → ⊥
   empty_disk : IsDeck (record pair { disks = record { size = 2; freq = 1 } ∷ record { size = 0; freq = 1 } ∷ [] }) → ⊥
   unaired_disk : IsDeck (record pair { disks = record { size = 2; freq = 0 } ∷ [] }) → ⊥
   -- each reader has a list of queries, and tries
   no_queries : IsDeck (record pair { queries = [] }) → ⊥
   no_tries : IsDeck (record pair { readers = record { room = 0; age = 0; tries = 0 } ∷ [] }) → ⊥
-  -- each query and each update is right
+  -- each query and each update is valid
   bad_query : IsDeck (record pair { queries = ((0 ∷ 2 ∷ []) ∷ []) ∷ [] }) → ⊥
   bad_update : IsDeck (updating (update [] (set_to 2 1 ∷ []) ∷ [])) → ⊥
-  -- the script commits what there is
+  -- the script commits only updates that there are
   too_many_commits : IsDeck (record pair { script = u ∷ [] }) → ⊥
   -- an updater's next commit has the number and the update that come next
   other_number : IsNextCommit turned [] 0 1 second_update → ⊥
   other_update : IsNextCommit turned [] 0 0 second_update → ⊥
-  -- its first commit of all counts
+  -- its very first commit counts too
   first_counts : count_made 0 (Commit 0 0 second_update ∷ Start ∷ []) ≡ 1
   not_legal : IsLegal turned (Start ∷ Commit 0 1 second_update ∷ []) → ⊥
 
@@ -111,11 +111,11 @@ decks = record {
 abbrev first : ℕ → ℕ → Bucket
 first cycle value = record { version = 1; edition = 0; cycle = cycle; slot = 0; body = Column 0 value (0 ∷ 0 ∷ []) }
 
--- The script's history, of one cycle, aired such a bucket.
+-- The script's history, of one cycle, aired this bucket.
 abbrev WasAired : Bucket → Type 0
 WasAired b = IsAiredBucket (values_in pair) (air_of pair) (script_history pair) b
 
--- A bucket of another value isn't the history's, nor is one of a cycle that it doesn't start.
+-- A bucket with another value isn't the history's, nor is one of a cycle that the history doesn't start.
 other_value : WasAired (first 1 11) → ⊥
 unfolding script_history event_of order order_with cut program least_common_multiple num_minors num_chunks chunk_len chunk minor_cycle bucket_of capped_entries capped_body body_of table column_entry front greatest value_of
 other_value h = let same : first 1 11 ≡ first 1 10 = h.same in let value : 11 ≡ 10 = ap (λ b. value_of b.body) same in omega (arith, value)
@@ -124,12 +124,12 @@ other_cycle : (WasAired (first 2 10) → ⊥) × (WasAired (first 0 10) → ⊥)
 unfolding script_history event_of starts is_start
 other_cycle = (λ h. let most : 2 ≤ 1 = h.started in omega arith, λ h. let least : 1 ≤ 0 = h.from_one in omega arith)
 
--- So no list with that bucket was aired, wherever it stands.
+-- No list with that bucket was aired, at any place.
 not_aired : (IsAired (values_in pair) (air_of pair) (script_history pair) (Some (first 1 11) ∷ []) → ⊥) × (IsAired (values_in pair) (air_of pair) (script_history pair) (None ∷ Some (first 1 11) ∷ []) → ⊥)
 unfolding order order_with cut program least_common_multiple num_minors num_chunks chunk_len chunk minor_cycle body_fits fits
 not_aired = (λ h. other_value (h 0 None (omega arith) refl), λ h. other_value (h 1 None (omega arith) refl))
 
--- The items of one cycle aren't aired where the last one is missing, nor where its value is another.
+-- The items of one cycle aren't aired if the last one is missing, or if its value is another.
 airs_missing : AirsItems pair (script_history pair) (first 1 10 ∷ []) → ⊥
 unfolding script_history event_of starts is_start cut order order_with
 airs_missing h = let item = h.times 1 1 (omega arith) (omega arith) (omega arith) in never item.number item.disk item.there item.times
@@ -144,7 +144,7 @@ airs_another h = let value : 11 ≡ 10 = h.values 0 (first 0 0) (omega arith) in
 
 -- ---- lines and sessions
 
--- The reader has one query, and reads its items alone.
+-- The reader has one query, and reads only its items.
 not_of_reader : (IsOfReader (reader_of pair 0) (line 1 1 Accept []) → ⊥) × (IsOfReader (reader_of pair 0) (line 0 1 Accept (read 1 1 20 ∷ read 0 1 10 ∷ read 1 1 20 ∷ [])) → ⊥)
 unfolding follows_query
 not_of_reader = (λ h. let low : 1 < 1 = h.query in omega arith, λ h. let e : false ≡ true = h.follows in false≢true e)
@@ -153,7 +153,7 @@ not_of_reader = (λ h. let low : 1 < 1 = h.query in omega arith, λ h. let e : f
 abbrev heard_otherwise : List (Option Bucket)
 heard_otherwise = bucket 1 0 (Column 0 11 (0 ∷ 0 ∷ [])) ∷ bucket 1 1 (Column 1 20 (0 ∷ 0 ∷ [])) ∷ []
 
--- So the session by the entries is another one than by the history.
+-- The session by the entries differs from the one by the history.
 not_the_same : IsTrueSession pair (script_history pair) 0 heard_otherwise → ⊥
 unfolding script_history event_of table front last_place writer writer_before writes origin descends descends_in descends_from runs_alone last_alone consistent least is_late clash_by_history clash_by_entries by_history by_entries order order_with cut program least_common_multiple num_minors num_chunks chunk_len chunk minor_cycle chunks_of disk_number pix_number body_fits fits keep without_item with_copy session query_of wanted line_of with_line count_copied count_opened count_dozed count_late count_refused count_foreign next_query next_attempt accept_if_whole hold abort is_unusable drop_copy copy_of turn_with turn settle decide offer open_bucket end_aged judge_read hear_read hear hear_all end_query end
 not_the_same h = let values : 31 ≡ 30 = ap (λ t. sum_by (λ l. sum_by (λ r. r.value) l.reads) t.lines) h.same in omega (arith, values)
@@ -162,14 +162,14 @@ not_the_same h = let values : 31 ≡ 30 = ap (λ t. sum_by (λ l. sum_by (λ r. 
 abbrev heard_written : List (Option Bucket)
 heard_written = bucket 1 0 (Column 0 10 (0 ∷ 0 ∷ [])) ∷ bucket 2 1 (Column 1 20 (1 ∷ 0 ∷ [])) ∷ []
 
-abbrev abort_line : Line
+abbrev abort_line : SessionLine
 abort_line = line 0 1 (Abort 1 2 0) (read 0 1 10 ∷ [])
 
 one_abort : (session_of (by_entries (scheme_of FMatrix)) pair 0 heard_written).lines ≡ abort_line ∷ []
 unfolding least is_late clash_by_entries by_entries order order_with cut program least_common_multiple num_minors num_chunks chunk_len chunk minor_cycle chunks_of disk_number pix_number body_fits fits keep without_item with_copy session query_of wanted line_of with_line count_copied count_opened count_dozed count_late count_refused count_foreign next_query next_attempt accept_if_whole hold abort is_unusable drop_copy copy_of turn_with turn settle decide offer open_bucket end_aged judge_read hear_read hear hear_all end_query end
 one_abort = refl
 
--- So the verdict isn't exact: the reads are consistent.
+-- The verdict isn't exact: the reads are consistent.
 not_exact : IsTrueSession pair (script_history pair) 0 heard_written → ⊥
 unfolding script_history event_of consistent last_alone runs_alone descends_from origin writer writer_before last_place writes front
 not_exact h = let exact : IsExactLine 1 (script_history pair) (reader_of pair 0) abort_line = subst (All (IsExactLine 1 (script_history pair) (reader_of pair 0))) one_abort (h.exact refl) 0 abort_line (omega arith) in

@@ -1,5 +1,5 @@
--- What a well made deck brings: events of legal histories that fit and read their bases, slots with items of the catalog,
--- and filled queries.
+-- What follows from a well made deck: events of legal histories fit and read their bases, slots have items of the catalog, and
+-- queries aren't empty.
 use Rattle.std.proofs.Common.{ap, ◌≡◌, ℕ, zero, suc, ◌%◌, ◌<◌, Bool, true, false, Option, Some, List, [], ◌∷◌, length, take, drop, get_or, All, sym, subst, inl, inr, arith}
 use Rattle.std.specs.Prelude.{IfSome, fold, if◌then◌else◌}
 use Rattle.std.specs.List.{flat_map, range_with_len, slice_get}
@@ -21,7 +21,7 @@ use Rattle.air_model.specs.SessionLaws.{QueriesFilled}
 use Rattle.air_model.specs.Sessions.{reader_of}
 use Rattle.air_history.proofs.UpdateRuleLemmas.{bases_read}
 
--- What holds of all lists of a list of lists holds of the list at each place, also past the end.
+-- What holds of all lists of a list of lists holds of the list at each place, also after the end.
 all_at : {X : Type 0} (P : X → Type 0) (xss : List (List X)) → All (All P) xss → (n : ℕ) → All P (get_or xss n [])
 all_at P xss h n = elim (cases_lt n (length xss)) as (λ _. All P (get_or xss n [])) [
   | inl l ↦ h n [] l
@@ -30,12 +30,12 @@ all_at P xss h n = elim (cases_lt n (length xss)) as (λ _. All P (get_or xss n 
 
 -- ---- editions
 
--- What a deck's own disks and those of each replan keep, the disks of each edition keep;
+-- What holds of a deck's own disks and of those of each replan holds of the disks of each edition.
 pub by_editions : (P : List DiskSpec → Type 0) (deck : Deck) → P deck.disks → All (λ r. P r.disks) deck.replans → (e : ℕ) → e < count_editions deck → P (specs_in deck e)
 by_editions P deck own others zero l = own
 by_editions P deck own others (suc k) l = others k no_replan (omega arith)
 
--- and where there is no replan, what the deck's own disks keep.
+-- Without a replan, what holds of the deck's own disks holds of each edition's.
 pub each_edition : (P : List DiskSpec → Type 0) (deck : Deck) → deck.replans ≡ [] → P deck.disks → (e : ℕ) → e < count_editions deck → P (specs_in deck e)
 each_edition P deck none h zero l = h
 each_edition P deck none h (suc k) l = absurd (let no : length deck.replans ≡ 0 = ap length none in omega arith)
@@ -47,7 +47,7 @@ update_is deck is by seq u e =
     subst (IsUpdate (length deck.items)) (get_or_from_slice_get (updates_by deck by) seq u u e)
     (all_at (IsUpdate (length deck.items)) deck.updates is.updates by seq u (slice_get_within (updates_by deck by) seq u e))
 
--- An update is of an updater that the deck has.
+-- An update has an updater of the deck.
 updater_is : (deck : Deck) (by seq : ℕ) (u : UpdateLists) → slice_get (updates_by deck by) seq ≡ Some u → by < length deck.updates
 updater_is deck by seq u e = elim (cases_lt by (length deck.updates)) as (λ _. by < length deck.updates) [
   | inl l ↦ l
@@ -69,7 +69,7 @@ events deck H is legal = (
   λ p d l. (event_is deck H is legal p (get_or H p d) (slice_get-get_or H p d l)).1,
 )
 
--- An event that fits has items that do.
+-- If an event fits, its items do.
 pub items_fit : (updaters n : ℕ) (e : Event) → EventFits updaters n e → ItemsFit n e
 unfolding EventFits ItemsFit
 items_fit updaters n (Commit by seq u) h = h.1

@@ -1,4 +1,4 @@
--- Buckets that aren't wanted: they are counted, and the newest cycle is noted. So they leave a settled receiver settled.
+-- Buckets that aren't wanted: they are counted, and the newest cycle is noted. A settled receiver stays settled after them.
 use Rattle.std.proofs.Common.{◌≡◌, ◌≢◌, ℕ, ◌+◌, max, false, Option, Some, None, List, [], ◌∷◌, length, All, refl, sym, ◌∙◌, ap, subst, arith}
 use Rattle.std.specs.Prelude.{IfSome}
 use Rattle.std.proofs.lemmas.Bool.{cond-false, cond-true, false_from_ne_true}
@@ -15,7 +15,7 @@ use Rattle.air_model.proofs.MomentLemmas.{wanted_from}
 pub not_wanted : (o : Option ℕ) (i : ℕ) → o ≢ Some i → is_wanted o i ≡ false
 not_wanted o i other = false_from_ne_true (is_wanted o i) (λ w. other (wanted_from o i w))
 
--- A copy is as little kept as before.
+-- If the item had no copy, it still has none.
 pub still_free : (o : Option ℕ) (n m : ℕ) (s : State) → copy_of o s ≡ None → copy_of o (dozed_through n m s) ≡ None
 unfolding copy_of
 still_free None n m s free = refl

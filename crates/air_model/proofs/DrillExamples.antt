@@ -1,4 +1,4 @@
--- The first draws of the drill of seed 1 and size 1, by an independent program, and its parts that are not drawn.
+-- The first draws of the drill of seed 1 and size 1, by an independent program, and the parts of it that aren't drawn.
 use Rattle.std.specs.Prelude.{◌≡◌, ℕ, [], ◌∷◌, false, Some, None, map, get_or, refl}
 use Rattle.air_history.specs.declared.updates.Write.{Write}
 use Rattle.air_model.specs.Decks.{rates_in, values_in}
@@ -20,14 +20,14 @@ all_rates : rates_in (drill_deck 1 1) ≡ 65 ∷ 28 ∷ 98 ∷ 100 ∷ 44 ∷ 48
 unfolding draw draw_each draw_update draw_query drill_deck
 all_rates = refl
 
--- A write of a constant, and one added to a base.
+-- A write of a constant, and of a constant added to a base.
 abbrev set_to : ℕ → ℕ → Write
 set_to item amount = record { item = item; base = None; minus = false; amount = amount }
 
 abbrev add_to : ℕ → ℕ → ℕ → Write
 add_to item base amount = record { item = item; base = Some base; minus = false; amount = amount }
 
--- The updates of the updaters 0 and 2: the first update, the third, the fifth, the seventh and the ninth of all.
+-- The updates of updaters 0 and 2: of all updates these are the first, the third, the fifth, the seventh and the ninth.
 first_updates : get_or (drill_deck 1 1).updates 0 []
     ≡ record { reads = []; writes = set_to 6 20 ∷ set_to 7 22 ∷ [] } ∷ record { reads = []; writes = set_to 0 12 ∷ set_to 1 29 ∷ [] }
     ∷ record { reads = 9 ∷ []; writes = add_to 13 9 81 ∷ [] } ∷ []

@@ -1,4 +1,4 @@
--- What is due at a number that was reached stays what it is, however much is pushed later.
+-- What is due at a number that was reached doesn't change with later pushes.
 use Rattle.std.proofs.Common.{◌≡◌, ℕ, zero, suc, ◌<◌, ◌≤◌, ◌+◌, ◌++◌, if◌then◌else◌, List, [], replicate, refl, ◌∙◌, ap, arith}
 use Rattle.std.specs.List.{flat_map, range_with_len}
 use Rattle.std.proofs.lemmas.Bool.{ne_eqb}
@@ -7,7 +7,7 @@ use Rattle.std.proofs.lemmas.List.{append-nil}
 use Rattle.air_model.specs.Ethers.{Odds, due_at, due_number, places_due, times_heard}
 use Rattle.air_model.proofs.EtherLemmas.{due_low, flat_none, of_push, range_join}
 
--- Lists over a range that agree at each number are one.
+-- Lists over a range that agree at each number are equal.
 flat_same : (f g : ℕ → List ℕ) (a n : ℕ) → ((k : ℕ) → a ≤ k → k < a + n → f k ≡ g k) → flat_map f (range_with_len a n) ≡ flat_map g (range_with_len a n)
 flat_same f g a zero h = refl
 flat_same f g a (suc n) h =
@@ -15,7 +15,7 @@ flat_same f g a (suc n) h =
     ∙ ap (λ l. g a ++ l) (flat_same f g (a + 1) n (λ k low high. h k (omega arith) (omega arith)))
 
 module _ (odds : Odds) (words : List ℕ) where
-  -- a push past the number isn't due at it
+  -- a push after the number isn't due at it
   not_due : (number place : ℕ) → number < place → of_push odds words number place ≡ []
   not_due number place l =
       ap (λ b. if b then replicate (times_heard odds words place) place else []) (ne_eqb (due_number odds words place) number (λ e. let low = due_low odds words place in omega arith))

@@ -1,13 +1,16 @@
--- The air of a deck by its editions: what it has in a cycle is what the deck says of the cycle's edition.
-use Rattle.std.proofs.Common.{◌≡◌, ℕ, ◌+◌, ◌<◌, ◌≤◌, Bool, true, false, cond, nat_le, List, [], ◌∷◌, length, map, get_or, refl, ◌∙◌, ap, arith}
+-- The air of a deck by its editions: in each cycle it has what the deck says of the cycle's edition.
+use Rattle.std.proofs.Common.{◌≡◌, ℕ, ◌+◌, ◌<◌, ◌≤◌, Bool, true, false, cond, nat_le, List, [], ◌∷◌, ◌++◌, length, map, get_or, refl, ◌∙◌, ap, append-nil, arith}
 use Rattle.std.specs.Prelude.{count_by}
-use Rattle.std.specs.List.{range_with_len}
+use Rattle.std.specs.List.{enumerate_from, flat_map, range_with_len}
 use Rattle.std.proofs.lemmas.Bool.{leb-false, leb-true}
 use Rattle.std.proofs.lemmas.List.FromFn.{get_or-map-range_with_len}
 use Rattle.std.proofs.lemmas.List.Sums.{count_by-le-length, sum_by-cons}
-use Rattle.air_model.specs.Aired.{Air, air_of, edition_at, pix_at, pix_in, scheme_in, slots_at}
-use Rattle.air_model.specs.Decks.{Deck, Replan, count_editions, disks_in, edition}
+use Rattle.air_history.specs.declared.histories.Event.{Event}
+use Rattle.air_model.specs.Aired.{Air, air_of, bucket_of, edition_at, pix_at, pix_in, scheme_in, slots_at}
+use Rattle.air_model.specs.Decks.{Deck, Replan, count_editions, disks_in, edition, rates_in}
+use Rattle.air_model.specs.PlanTexts.{edition_rows, plan_text, replan_rows}
 use Rattle.air_model.specs.Programs.{program}
+use Rattle.air_model.specs.Rows.{rows_text}
 
 count_cycles : (rs : List Replan) (c : ℕ) → count_by (λ at. nat_le at c) (map (λ r. r.cycle) rs) ≡ count_by (λ r. nat_le r.cycle c) rs
 count_cycles [] c = refl
@@ -20,7 +23,7 @@ count_cycles (r ∷ rs) c =
 pub edition_is : (deck : Deck) (c : ℕ) → edition_at (air_of deck) c ≡ edition deck c
 edition_is deck c = count_cycles deck.replans c
 
--- Which is one of the deck's editions.
+-- That edition is one of the deck's.
 pub edition_within : (deck : Deck) (c : ℕ) → edition deck c < count_editions deck
 edition_within deck c = let most = count_by-le-length (λ (r : Replan). nat_le r.cycle c) deck.replans in omega arith
 
@@ -29,11 +32,11 @@ at_edition f deck c =
     ap (λ e. get_or (map f (range_with_len 0 (count_editions deck))) e []) (edition_is deck c)
     ∙ get_or-map-range_with_len f 0 (count_editions deck) (edition deck c) (edition deck c) [] (edition_within deck c) (omega arith)
 
--- So its slots in a cycle are those of the edition's disks,
+-- The air's slots in a cycle are those of the edition's disks.
 pub slots_are : (deck : Deck) (c : ℕ) → slots_at (air_of deck) c ≡ program (disks_in deck (edition deck c))
 slots_are deck c = at_edition (λ e. program (disks_in deck e)) deck c
 
--- and so are its PIX numbers.
+-- Its PIX numbers in a cycle are the edition's.
 pub pix_are : (deck : Deck) (c : ℕ) → pix_at (air_of deck) c ≡ pix_in deck (edition deck c)
 pix_are deck c = at_edition (pix_in deck) deck c
 
@@ -61,7 +64,23 @@ edition_rises deck c d l = count_rises deck.replans c d l
 pub one_edition : (deck : Deck) (c : ℕ) → deck.replans ≡ [] → edition deck c ≡ 0
 one_edition deck c none = ap (count_by (λ r. nat_le r.cycle c)) none
 
--- So the air has the program of the deck's own disks in each cycle.
+-- Without replans each bucket has the number of that edition,
+pub plain_bucket : (deck : Deck) (values : List ℕ) (H : List Event) (version c s : ℕ) → deck.replans ≡ [] → (bucket_of values (air_of deck) H version c s).edition ≡ 0
+unfolding bucket_of
+plain_bucket deck values H version c s none = edition_is deck c ∙ one_edition deck c none
+
+-- the text of the plan has the rows of that edition alone,
+pub plain_plan : (deck : Deck) → deck.replans ≡ [] → plan_text (rates_in deck) deck.disks deck.replans ≡ rows_text (edition_rows (rates_in deck) deck.disks)
+unfolding plan_text
+plain_plan deck none =
+    let rows = edition_rows (rates_in deck) deck.disks in
+    ap (λ rs. rows_text (rows ++ flat_map (replan_rows (rates_in deck)) (enumerate_from 1 rs))) none ∙ ap rows_text (append-nil rows)
+
+-- the air has the PIX numbers by the deck's own disks in each cycle,
+pub plain_pix : (deck : Deck) (c : ℕ) → deck.replans ≡ [] → pix_at (air_of deck) c ≡ pix_in deck 0
+plain_pix deck c none = pix_are deck c ∙ ap (pix_in deck) (one_edition deck c none)
+
+-- and their program.
 pub plain_slots : (deck : Deck) (c : ℕ) → deck.replans ≡ [] → slots_at (air_of deck) c ≡ program (disks_in deck 0)
 plain_slots deck c none = slots_are deck c ∙ ap (λ e. program (disks_in deck e)) (one_edition deck c none)
 

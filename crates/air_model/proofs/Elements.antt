@@ -1,5 +1,5 @@
--- An element of a list by its place: from `slice_get` to std's words `Contains`, `All` and `AllPairs`, and back.
--- A `Has` goes by cases of the list, which the inductions on orders and disks want.
+-- An element of a list by its place: from `slice_get` to the library's `Contains`, `All` and `AllPairs`, and back. A `Has` is
+-- decided by cases of the list, which the inductions on orders and disks need.
 use Rattle.std.proofs.Common.{◌≡◌, ◌<◌, ◌+◌, ◌++◌, ℕ, zero, suc, zero-add, Some, List, [], ◌∷◌, length, get_or, slice_get, refl, subst, ap, ◌∙◌, arith}
 use Rattle.std.specs.List.{All, AllPairs, Contains}
 use Rattle.std.proofs.lemmas.Option.{get_or_from_slice_get, slice_get-get_or, slice_get_within}
@@ -48,7 +48,7 @@ pub get_right : {X : Type 0} (xs ys : List X) (k : ℕ) → slice_get (xs ++ ys)
 get_right [] ys k = rw (zero-add k) refl
 get_right (x ∷ xs) ys k = let e : length (x ∷ xs) + k ≡ suc (length xs + k) = omega arith in rw e (get_right xs ys k)
 
--- No number stands at two places.
+-- No number is at two places.
 abbrev pub Distinct : List ℕ → Type 0
 Distinct xs = (j k i : ℕ) → slice_get xs j ≡ Some i → slice_get xs k ≡ Some i → j ≡ k
 

@@ -1,4 +1,5 @@
--- An entry and the number that stands for it in a bucket's bytes, its age or itself: each gives the other, and they are in range together.
+-- An entry and the number that stands for it in a bucket's bytes, which is its age or the entry itself: each gives the other,
+-- and they are in range together.
 use Rattle.std.proofs.Common.{◌≡◌, ℕ, zero, suc, ◌-◌, ◌^◌, ◌<◌, ◌≤◌, Bool, true, false, cond, ◌==◌, ◌&&◌, ◌||◌, if◌then◌else◌, nat_le, nat_lt, List, [], ◌∷◌, ◌++◌, map, refl, sym, ◌∙◌, ap, arith, All}
 use Rattle.std.specs.Prelude.{IsTrue}
 use Rattle.std.specs.List.{flat_map, list_all}
@@ -14,14 +15,14 @@ use Rattle.air_model.specs.Buckets.{age_of, entry_bytes, entry_len, entry_told, 
 abbrev pub raw_of : ℕ → ℕ → ℕ → ℕ
 raw_of version c e = if has_ages version then age_of c e else e
 
--- The entry is below the cycle, and an age can tell it where the version has ages.
+-- The entry is below the cycle and, if the version has ages, an age gives it.
 pub record IsTold (version c e : ℕ) : Type 0 where
   pub below : e < c
   pub young : IsTrue (has_ages version) → capped e c ≡ e
 
 -- ---- by age
 
--- An entry that an age tells is 0, or less than the cap ago.
+-- An entry that an age gives is 0, or less than the cap ago.
 young_entry : (e c : ℕ) → capped e c ≡ e → (e == 0) ≡ false → c - e < AGE_CAP
 unfolding capped
 young_entry e c told some = by (nat_lt (c - e) AGE_CAP) refl told
@@ -30,7 +31,7 @@ young_entry e c told some = by (nat_lt (c - e) AGE_CAP) refl told
     by true young told = ltb-true (c - e) AGE_CAP young
     by false old told = absurd (let apart = eqb-false e 0 some in apart (sym told))
 
--- The entry that an age tells.
+-- The entry that an age gives.
 abbrev from_age : ℕ → ℕ → ℕ
 from_age c a = if a == AGE_CAP then 0 else c - a
 
@@ -70,7 +71,7 @@ age_small c e told = by (e == 0) refl
     by true none = omega arith
     by false some = let young = young_entry e c told some in omega arith
 
--- A number that is no cap and an age has an entry that isn't 0.
+-- An age that isn't the cap gives an entry that isn't 0.
 record IsAge (c a : ℕ) : Type 0 where
   some : 1 ≤ a
   below : a < c
@@ -96,7 +97,7 @@ entry_below c a one t = by (a == AGE_CAP) t
     by true t = one
     by false t = let is = age_from c a t in let some = is.some in omega arith
 
--- An age below 256 is the cap, or below it.
+-- An age below 256 is the cap, or below the cap.
 entry_young : (c a : ℕ) → a < 256 → ((a == AGE_CAP) || (nat_le 1 a && nat_lt a c)) ≡ true → capped (from_age c a) c ≡ from_age c a
 unfolding capped
 entry_young c a small t = by (a == AGE_CAP) refl t

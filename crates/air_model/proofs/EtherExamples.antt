@@ -20,17 +20,18 @@ all_twice : heard_list (record { loss = 0; again = 100; late = 0 }) words four_b
 unfolding heard_list heard_places places_due due_at due_number times_heard
 all_twice = refl
 
--- Push 1 is heard behind the pushes 2 and 3; of these, both due at 3, push 2 is first.
+-- Push 1 is heard after the pushes 2 and 3; both of these are due at 3, and push 2 is first.
 one_late : heard_list (record { loss = 0; again = 0; late = 51 }) words four_buckets ≡ (10 ∷ []) ∷ (12 ∷ []) ∷ (13 ∷ []) ∷ (11 ∷ []) ∷ []
 unfolding heard_list heard_places places_due due_at due_number times_heard
 one_late = refl
 
--- The pushes 0, 1 and 3 have a first word below 51 of a hundred; a push that is lost is not heard again or late.
+-- The pushes 0, 1 and 3 have a first word below 51 of a hundred; a push that is lost isn't heard again or late.
 some_lost : heard_list (record { loss = 51; again = 100; late = 51 }) words four_buckets ≡ (12 ∷ []) ∷ (12 ∷ []) ∷ []
 unfolding heard_list heard_places places_due due_at due_number times_heard
 some_lost = refl
 
--- The third word: below 50 of a hundred it isn't late; with 51, 850 makes push 0 one late, and 750 push 1 eight.
+-- The third word: below 50 of a hundred the push isn't late; with 51 of a hundred, 850 delays push 0 by one and 750 delays push
+-- 1 by eight.
 abbrev late_words : List ℕ
 late_words = 99 ∷ 99 ∷ 850 ∷ 99 ∷ 99 ∷ 750 ∷ []
 
@@ -47,13 +48,14 @@ due_so_far : places_due (record { loss = 0; again = 0; late = 51 }) late_words 2
 unfolding places_due due_at due_number times_heard
 due_so_far = refl
 
--- With 50 lost of a hundred a first word of 50 is heard, and one of 49 is lost; with 50 heard again a second word of 49 is heard twice.
+-- If 50 of a hundred are lost, a push with a first word of 50 is heard, and one with 49 is lost; if 50 are heard again, a
+-- second word of 49 is heard twice.
 heard_at_the_odds : (times_heard (record { loss = 50; again = 0; late = 0 }) (50 ∷ 0 ∷ 0 ∷ []) 0 ≡ 1) × (times_heard (record { loss = 50; again = 0; late = 0 }) (49 ∷ 0 ∷ 0 ∷ []) 0 ≡ 0)
     × (times_heard (record { loss = 0; again = 50; late = 0 }) (0 ∷ 49 ∷ 0 ∷ []) 0 ≡ 2) × (times_heard (record { loss = 0; again = 50; late = 0 }) (0 ∷ 50 ∷ 0 ∷ []) 0 ≡ 1)
 unfolding times_heard
 heard_at_the_odds = (refl, refl, refl, refl)
 
--- By the words that the seed 3 gives to reader 3.
+-- Heard by the words that seed 3 gives to reader 3.
 by_seed : heard_by 3 3 (record { loss = 30; again = 30; late = 60 }) four_buckets ≡ (11 ∷ []) ∷ (12 ∷ []) ∷ (10 ∷ []) ∷ (10 ∷ []) ∷ []
 unfolding heard_by words_by heard_list heard_places places_due due_at due_number times_heard
 by_seed = refl

@@ -1,5 +1,5 @@
--- What is heard of pushes: a list put together over a range of due numbers, each over the range of places.
--- Each law is one on such lists: only one number of a range has elements, or all its elements say the same.
+-- What is heard of pushes: a list joined over a range of due numbers, each over the range of places. Each law is a law of such
+-- lists: only one number of a range has elements, or all its elements satisfy the same.
 use Rattle.std.proofs.Common.{◌≡◌, ℕ, zero, suc, ◌<◌, ◌≤◌, ◌+◌, ◌/◌, ◌%◌, Bool, true, false, cond, ◌==◌, ◌++◌, ◌⊎◌, inl, inr, if◌then◌else◌, nat_lt, List, [], ◌∷◌, length, map, get_or, All, replicate, refl, sym, ◌∙◌, ap, arith}
 use Rattle.std.specs.Prelude.{AllPairs, Contains, slice_index_or}
 use Rattle.std.specs.List.{count_by, flat_map, range_with_len}
@@ -21,12 +21,12 @@ range_join a (suc n) m =
     let f : a + suc n ≡ a + 1 + n = omega arith in
     ap (range_with_len a) e ∙ ap (λ l. a ∷ l) (range_join (a + 1) n m) ∙ ap (λ b. a ∷ range_with_len (a + 1) n ++ range_with_len b m) (sym f)
 
--- Where no number of the range has elements there are none.
+-- If no number of the range has elements, there are none.
 pub flat_none : (f : ℕ → List ℕ) (a n : ℕ) → ((k : ℕ) → a ≤ k → k < a + n → f k ≡ []) → flat_map f (range_with_len a n) ≡ []
 flat_none f a zero h = refl
 flat_none f a (suc n) h = ap (λ l. l ++ flat_map f (range_with_len (a + 1) n)) (h a (omega arith) (omega arith)) ∙ flat_none f (a + 1) n (λ k low high. h k (omega arith) (omega arith))
 
--- Where one number of the range alone has elements, these are all.
+-- If only one number of the range has elements, these are all.
 flat_only : (f : ℕ → List ℕ) (a n v : ℕ) → ((k : ℕ) → (k ≡ v → ⊥) → f k ≡ []) → a ≤ v → v < a + n → flat_map f (range_with_len a n) ≡ f v
 flat_only f a zero v h low high = absurd (omega arith)
 flat_only f a (suc n) v h low high = by (cases_eq a v) (λ more. flat_only f (a + 1) n v h more (omega arith))
@@ -35,13 +35,13 @@ flat_only f a (suc n) v h low high = by (cases_eq a v) (λ more. flat_only f (a 
     by (inl same) later = ap (λ l. f a ++ l) (flat_none f (a + 1) n (λ k from to. h k (λ is. absurd (omega arith)))) ∙ append-nil (f a) ∙ ap f same
     by (inr ne) later = ap (λ l. l ++ flat_map f (range_with_len (a + 1) n)) (h a ne) ∙ later (omega (arith, ne))
 
--- Where each number has itself, the range is meant.
+-- If each number gives itself, the list is the range.
 flat_self : (f : ℕ → List ℕ) (a n : ℕ) → ((k : ℕ) → a ≤ k → k < a + n → f k ≡ k ∷ []) → flat_map f (range_with_len a n) ≡ range_with_len a n
 flat_self f a zero h = refl
 flat_self f a (suc n) h =
     ap (λ l. l ++ flat_map f (range_with_len (a + 1) n)) (h a (omega arith) (omega arith)) ∙ ap (λ l. a ∷ l) (flat_self f (a + 1) n (λ k low high. h k (omega arith) (omega arith)))
 
--- What all elements of each number say, all say.
+-- What holds of all elements of each number holds of all.
 all_over : (P : ℕ → Type 0) (f : ℕ → List ℕ) (a n : ℕ) → ((k : ℕ) → a ≤ k → k < a + n → All P (f k)) → All P (flat_map f (range_with_len a n))
 all_over P f a zero h = λ k d l. absurd (omega arith)
 all_over P f a (suc n) h = All-append P (f a) (flat_map f (range_with_len (a + 1) n)) (h a (omega arith) (omega arith)) (all_over P f (a + 1) n (λ k low high. h k (omega arith) (omega arith)))
@@ -146,7 +146,7 @@ module _ (odds : Odds) (words : List ℕ) where
   unfolding heard_places places_due
   places_below n = all_over (λ p. p < n) (due_at odds words n) 0 (n + 8) (λ number low high k d l. (due_tells n number k d l).1)
 
-  -- once it is clear what is due at a number, further pushes change nothing there
+  -- once all pushes that can be due at a number were made, further pushes change nothing there
   pub due_so_far : (n more number : ℕ) → number < n → due_at odds words (n + more) number ≡ due_at odds words n number
   unfolding due_at
   due_so_far n more number within =
@@ -226,7 +226,7 @@ unfolding heard_list
 heard_was_pushed odds words pushed =
     All-map (Contains pushed) (λ place. slice_index_or pushed place []) (heard_places odds words (length pushed)) (λ k d l. Contains-get_or pushed _ [] (places_below odds words (length pushed) k d l))
 
--- With nothing lost, heard again or late each push is heard once, at its own number.
+-- With nothing lost, heard again or delayed each push is heard once, at its own number.
 abbrev clear : Odds
 clear = record { loss = 0; again = 0; late = 0 }
 

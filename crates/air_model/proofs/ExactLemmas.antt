@@ -1,4 +1,4 @@
--- Under F-Matrix each verdict is exact: what it tells of the reads leaves no other verdict open.
+-- Under F-Matrix each verdict is exact: what it tells of the reads rules out every other verdict.
 use Rattle.std.proofs.Common.{◌≡◌, ◌∷◌, ◌++◌, ℕ, true, false, List, [], length, map, get_or, refl, sym, ◌∙◌, ap, arith, Option, All, IsTrue}
 use Rattle.std.proofs.lemmas.Bool.{false≢true}
 use Rattle.std.proofs.lemmas.List.{length-map}
@@ -14,7 +14,7 @@ use Rattle.air_model.specs.Aired.{Air}
 use Rattle.air_model.specs.Buckets.{Bucket}
 use Rattle.air_model.proofs.SoundLemmas.{Tells, TellsSpan, verdict}
 
--- What isn't too far apart isn't aged.
+-- Reads that aren't too far apart aren't aged.
 not_far : (version : ℕ) (R : List ReadAt) → are_far version R ≡ false → IsTrue (are_far version R) → ⊥
 not_far version R near far = let no : false ≡ true = sym near ∙ far in false≢true no
 

@@ -1,5 +1,5 @@
 -- The bytes of a bucket as a flat list of fields: what is read back from a spelling, and what bytes without a fault spell.
--- `read_back` and `spelled` are the two directions; `BucketLemmas` carries them over to buckets.
+-- `read_back` and `spelled` are the two directions; `BucketLemmas` uses them for buckets.
 use Rattle.std.proofs.Common.{◌≡◌, ◌⊎◌, ◌≤◌, ◌<◌, ◌+◌, ◌*◌, ◌^◌, ◌++◌, ◌&&◌, ◌==◌, if◌then◌else◌, nat_lt, nat_le, ℕ, zero, suc, Bool, true, false, List, [], ◌∷◌, All, map, length, length-append, drop, get_or, slice_index, refl, sym, ◌∙◌, ap, subst, arith}
 use Rattle.std.proofs.Math.Nat.{mul-suc, mul-zero}
 use Rattle.std.proofs.lemmas.Grind.{same_number_lists}
@@ -15,7 +15,7 @@ use Rattle.air_model.proofs.ByteLemmas.{AllBytes, one_spelling}
 use Rattle.air_model.proofs.EntryLemmas.{each_test}
 
 -- ---- the fields
--- what stands in the bytes, for each version and kind: for the entries the numbers that stand for them.
+-- what is in the bytes, for each version and kind: in place of the entries, the numbers that stand for them.
 pub record Fields : Type 0 where
   pub version : ℕ
   pub kind : ℕ
@@ -31,7 +31,7 @@ abbrev pub fields_with : ℕ → ℕ → ℕ → ℕ → ℕ → ℕ → ℕ →
 fields_with version kind edition count cycle slot item value numbers =
     record { version = version; kind = kind; edition = edition; count = count; cycle = cycle; slot = slot; item = item; value = value; numbers = numbers }
 
--- Fields alike are the same.
+-- Records with equal fields are equal.
 pub same_fields : (v a a2 b b2 c c2 d d2 e e2 g g2 h h2 : ℕ) (l l2 : List ℕ) → a ≡ a2 → b ≡ b2 → c ≡ c2 → d ≡ d2 → e ≡ e2 → g ≡ g2 → h ≡ h2 → l ≡ l2
     → fields_with v a b c d e g h l ≡ fields_with v a2 b2 c2 d2 e2 g2 h2 l2
 same_fields v a a2 b b2 c c2 d d2 e e2 g g2 h h2 l l2 p1 p2 p3 p4 p5 p6 p7 p8 = rw (p1, p2, p3, p4, p5, p6, p7, p8) refl
@@ -178,7 +178,7 @@ read_back f r =
     ∙ numbers_back w (head_of f) (entry_count f.kind f.count) f.numbers refl r.many r.small)
 
 -- ---- bytes without a fault
--- what it is for bytes to have no fault.
+-- what it means that bytes have no fault.
 pub record IsWhole (bytes : List ℕ) : Type 0 where
   pub long : 24 ≤ length bytes
   pub magic0 : slice_index bytes 0 ≡ 0x41
@@ -207,7 +207,7 @@ whole_bytes f r =
       shaped = shaped_is (bytes_of f) ∙ ap are_shaped (read_back f r) ∙ r.shaped;
     }
 
--- A number is spelled where it is read.
+-- A number is spelled at the place where it is read.
 part : (bytes : List ℕ) (at n : ℕ) → AllBytes bytes → at + n ≤ length bytes → drop at bytes ≡ big_bytes n (number_at at n bytes) ++ drop (at + n) bytes
 part bytes at n all room =
     let rest = drop at bytes in
@@ -230,7 +230,7 @@ first_four (a ∷ b ∷ []) h = absurd (omega arith)
 first_four (a ∷ b ∷ c ∷ []) h = absurd (omega arith)
 first_four (a ∷ b ∷ c ∷ d ∷ rest) h = refl
 
--- What is left at each place, put together from the front.
+-- The rest at each place, joined from the front.
 chain : (d4 d6 d8 d12 d14 d16 d24 x1 x2 x3 x4 x5 x6 x7 : List ℕ) → d4 ≡ x1 ++ d6 → d6 ≡ x2 ++ d8 → d8 ≡ x3 ++ d12 → d12 ≡ x4 ++ d14 → d14 ≡ x5 ++ d16 → d16 ≡ x6 ++ d24 → d24 ≡ x7
     → d4 ≡ x1 ++ (x2 ++ (x3 ++ (x4 ++ (x5 ++ (x6 ++ x7)))))
 chain d4 d6 d8 d12 d14 d16 d24 x1 x2 x3 x4 x5 x6 x7 p1 p2 p3 p4 p5 p6 p7 = rw (p1, p2, p3, p4, p5, p6, p7) refl

@@ -23,23 +23,23 @@ own_fits : (fits_two 0 0 (Column 0 10 (0 ∷ 0 ∷ [])) ≡ true) × (fits_two 0
 unfolding fits body_fits
 own_fits = (refl, refl, refl)
 
--- Another edition doesn't, nor does a slot past the program's last.
+-- A bucket of another edition doesn't fit, nor does one of a slot after the program's last.
 other_place : (fits_two 1 0 (Column 0 10 (0 ∷ 0 ∷ [])) ≡ false) × (fits_two 1 2 (Idle 2) ≡ false)
     × (fits_two 0 3 (Idle 2) ≡ false) × (fits_two 0 3 (Column 0 10 (0 ∷ 0 ∷ [])) ≡ false)
 unfolding fits body_fits
 other_place = (refl, refl, refl, refl)
 
--- Nor another item, an item in the idle slot, or an idle bucket in an item's slot.
+-- Another item doesn't fit, nor does an item in the idle slot, or an idle bucket in an item's slot.
 other_item : (fits_two 0 0 (Column 1 20 (0 ∷ 0 ∷ [])) ≡ false) × (fits_two 0 2 (Column 0 10 (0 ∷ 0 ∷ [])) ≡ false) × (fits_two 0 0 (Idle 2) ≡ false)
 unfolding fits body_fits
 other_item = (refl, refl, refl)
 
--- Nor another number of items.
+-- Another number of items doesn't fit.
 other_count : (fits_two 0 0 (Column 0 10 (0 ∷ 0 ∷ 0 ∷ [])) ≡ false) × (fits_two 0 2 (Idle 3) ≡ false)
 unfolding fits body_fits
 other_count = (refl, refl)
 
--- Columns fit under F-Matrix alone, and vectors under the other policies.
+-- Columns fit only under F-Matrix, and vectors only under the other policies.
 other_kind : (fits_two 0 0 (Vector 0 10 (0 ∷ 0 ∷ [])) ≡ false) × (fits (two Datacycle) (of_slot 0 0 (Vector 0 10 (0 ∷ 0 ∷ []))) ≡ true)
     × (fits (two Datacycle) (of_slot 0 0 (Column 0 10 (0 ∷ 0 ∷ []))) ≡ false)
 unfolding fits body_fits

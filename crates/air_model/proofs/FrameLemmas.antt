@@ -1,4 +1,4 @@
--- The frame of a beginning of a history that ends at a start shows the values at that cycle's start.
+-- The frame of a beginning of a history that ends with a start shows the values at that cycle's start.
 use Rattle.std.proofs.Common.{◌≡◌, ℕ, suc, ◌+◌, ◌%◌, ◌^◌, List, [], ◌∷◌, ◌++◌, length, refl, sym, ◌∙◌, ap, inl, inr, arith, append_assoc}
 use Rattle.std.specs.Prelude.{sum}
 use Rattle.std.specs.List.{range_with_len}
@@ -13,7 +13,7 @@ use Rattle.air_model.proofs.StartLemmas.{starts_append, starts_commit, starts_no
 use Rattle.air_model.specs.MonitorSights.{EndsAtStart, IsSeen}
 use Rattle.air_model.proofs.AiringLemmas.{map_same}
 
--- The front of the cycle that a start begins is what stands before it
+-- The front of the cycle that a start begins is what comes before the start
 front_here : (F after : List Event) → front (F ++ Start ∷ after) (suc (starts F)) ≡ F
 unfolding front is_start
 front_here [] after = ap (λ n. front (Start ∷ after) (suc n)) starts_none

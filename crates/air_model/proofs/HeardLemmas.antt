@@ -1,5 +1,5 @@
--- What is heard of a bucket's entries: they are what the history airs, in full or by age. Reads that don't lie too far apart for the air's
--- version have what the laws of clashes ask.
+-- What is heard of a bucket's entries: they are what the history airs, in full or by age. Reads that aren't too far apart for
+-- the air's version meet the conditions of the laws of clashes.
 use Rattle.std.proofs.Common.{◌≡◌, ◌&&◌, ◌∷◌, ◌++◌, ℕ, ◌<◌, ◌≤◌, min, max, Bool, true, false, List, [], length, map, All, refl, ◌∙◌, inl, inr, arith}
 use Rattle.std.proofs.lemmas.Bool.{leb-false, lt-leb}
 use Rattle.std.proofs.lemmas.List.{length-map, get_or-map}
@@ -22,7 +22,7 @@ use Rattle.air_model.proofs.CapLemmas.{entries_by, full_entries}
 abbrev pub told_by : Scheme → ℕ → List Event → ℕ → ℕ → ℕ → HeardRead
 told_by scheme n H v c j = record { item = j; cycle = c; entries = capped_entries v c (aired_entries scheme n H c j) }
 
--- It has what H airs, in full or by age.
+-- The read has what H airs, in full or by age.
 pub has_capped : (scheme : Scheme) (n : ℕ) (H : List Event) (v c j : ℕ) → 1 ≤ c → j < n → HasCappedEntries scheme n H (told_by scheme n H v c j)
 has_capped scheme n H v c j one within =
     let es = aired_entries scheme n H c j in
@@ -36,17 +36,17 @@ has_capped scheme n H v c j one within =
     })
     (full_is_capped scheme n H (record { item = j; cycle = c; entries = es }) (record { cycle = one; within = within; entries = refl }))
 
--- And in full where the version has no ages.
+-- It has it in full if the version has no ages.
 pub has_full : (scheme : Scheme) (n : ℕ) (H : List Event) (v c j : ℕ) → 1 ≤ c → j < n → has_ages v ≡ false → HasAiredEntries scheme n H (told_by scheme n H v c j)
 has_full scheme n H v c j one within e = record { cycle = one; within = within; entries = full_entries v c (aired_entries scheme n H c j) e }
 
--- A read may be heard on an air of this version: capped, and in full where the version has no ages.
+-- A read may be heard on an air of this version: its entries may be capped, and are in full if the version has no ages.
 abbrev pub MayBeHeard : Scheme → ℕ → ℕ → List Event → HeardRead → Type 0
 MayBeHeard scheme version n H r = HasCappedEntries scheme n H r × (has_ages version ≡ false → HasAiredEntries scheme n H r)
 
 -- ---- reads together
 
--- Reads that may be heard and don't lie too far apart for the version have what H airs.
+-- Reads that may be heard and aren't too far apart for the version have what H airs.
 pub have_aired : (scheme : Scheme) (version n : ℕ) (H : List Event) (R : List HeardRead) (x : HeardRead) → All (MayBeHeard scheme version n H) R → MayBeHeard scheme version n H x →
     are_far version (map read_at R ++ read_at x ∷ []) ≡ false → HaveAiredEntries scheme n H R x
 have_aired scheme version n H R x are is near = by (has_ages version) refl near
@@ -55,7 +55,7 @@ have_aired scheme version n H R x are is near = by (has_ages version) refl near
     by true ages near = inr ((λ k d l. (are k d l).0), is.0, near)
     by false full near = inl ((λ k d l. (are k d l).1 full), is.1 full)
 
--- No reads don't lie too far apart.
+-- Zero reads aren't too far apart.
 pub none_far : (version : ℕ) → are_far version [] ≡ false
 unfolding spans_too_far span
 none_far version = by (has_ages version)
@@ -68,7 +68,7 @@ oldest_at_most : (c : ℕ) (R : List ReadAt) → oldest_with c R ≤ c
 oldest_at_most c [] = omega arith
 oldest_at_most c (r ∷ R) = let rest = oldest_at_most (min c r.cycle) R in omega arith
 
--- With one more the oldest is no newer.
+-- With one more read the oldest cycle doesn't rise.
 oldest_falls : (c : ℕ) (r : ReadAt) (R : List ReadAt) → oldest_with c (r ∷ R) ≤ oldest_cycle (r ∷ R)
 oldest_falls c r [] = omega arith
 oldest_falls c r (s ∷ R) =
@@ -84,7 +84,7 @@ span_grows (r ∷ R) x =
     let low = oldest_falls x.cycle r R in
     omega arith
 
--- Reads that don't lie too far apart with one more don't without it.
+-- If reads with one more aren't too far apart, they aren't without it.
 pub nearer : (version : ℕ) (R : List ReadAt) (x : ReadAt) → are_far version (R ++ x ∷ []) ≡ false → are_far version R ≡ false
 unfolding spans_too_far
 nearer version R x = by (has_ages version)

@@ -64,7 +64,7 @@ module _ {X : Type 0} (p : X → Bool) where
   count_both : (xs ys : List X) → count_by p (xs ++ ys) ≡ count_by p xs + count_by p ys
   count_both xs ys = sum_by-append (λ x. cond (p x) 1 0) xs ys
 
-  -- What is counted of values by places is counted of the slots.
+  -- Counting values by their places counts the slots.
   count_places : (q : Option ℕ → Bool) (slots : List (Option ℕ)) (f : ℕ → X) (a : ℕ) → ((k : ℕ) → p (f (a + k)) ≡ q (get_or slots k None))
       → count_by p (map f (range_with_len a (length slots))) ≡ count_by q slots
   count_places q [] f a h = refl
@@ -74,7 +74,7 @@ module _ {X : Type 0} (p : X → Bool) where
       count_cons (f a) (map f (range_with_len (a + 1) (length slots))) ∙ ap (λ b. cond b 1 0 + count_by p (map f (range_with_len (a + 1) (length slots)))) here
       ∙ ap (λ n. cond (q o) 1 0 + n) rest ∙ sym (sum_by-cons (λ x. cond (q x) 1 0) o slots)
 
-  -- Lists of which none has what is counted, and with one that has.
+  -- Lists of which none has what is counted, and lists of which one has.
   none_before : (f : ℕ → List X) (a n c : ℕ) → ((d : ℕ) → d ≢ c → count_by p (f d) ≡ 0) → c < a → count_by p (flat_map f (range_with_len a n)) ≡ 0
   none_before f a zero c h l = refl
   none_before f a (suc n) c h l =

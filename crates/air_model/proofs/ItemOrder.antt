@@ -1,5 +1,5 @@
--- The order of the items: each is hotter than those after it, none is missing or twice, and no other list is like that.
--- The cut of a list: the disks hold a front of it, and all of it where the sizes add up.
+-- The order of the items: each is hotter than those after it, none is missing or twice, and no other list is like that. For the
+-- cut of a list: the disks hold the list's first items, and all of them if the sizes add up.
 use Rattle.std.proofs.Common.{◌≡◌, ◌<◌, ◌≤◌, ◌⊎◌, inl, inr, ◌+◌, ◌++◌, ℕ, zero, suc, Bool, true, false, cond, Some, List, [], ◌∷◌, append_assoc, length, take, drop, slice_get, slice_index, refl, sym, subst, ap, ◌∙◌, arith}
 use Rattle.std.specs.Prelude.{◌≢◌}
 use Rattle.std.specs.List.{All, fold, range_with_len, sum_by}
@@ -149,7 +149,7 @@ pub length-order : (rates : List ℕ) → length (order rates) ≡ length rates
 unfolding order
 length-order rates = omega (arith, length-sorted rates [] 0 (length rates))
 
--- Two lists in order with the same elements are one.
+-- Two lists in order with the same elements are equal.
 same_order : (rates xs ys : List ℕ) → IsInOrder rates xs → IsInOrder rates ys → ((z : ℕ) → Has xs z → Has ys z) → ((z : ℕ) → Has ys z → Has xs z) → xs ≡ ys
 same_order rates [] [] a b to from = refl
 same_order rates [] (y ∷ ys) a b to from = absurd (let h = from y (0, refl) in cc h.1)
@@ -189,7 +189,7 @@ order_only rates items = (
   (λ e. subst (IsOrder rates) (sym e) (order_is_order rates)),
 )
 
--- What is in order holds nothing twice.
+-- A list in order has nothing twice.
 order_distinct : (rates : List ℕ) → Distinct (order rates)
 order_distinct rates j k i a b = by (cases_lt j k) (cases_lt k j)
   where
@@ -199,7 +199,7 @@ order_distinct rates j k i a b = by (cases_lt j k) (cases_lt k j)
     by (inr over) (inr under) = omega arith
 
 -- ---- the cut
--- the disks hold a front of the items.
+-- the disks hold the first items.
 cut_front : (items : List ℕ) (specs : List DiskSpec) → (rest : List ℕ) × (all_items (cut items specs) ++ rest ≡ items)
 unfolding cut all_items
 cut_front items [] = (items, refl)
@@ -207,7 +207,7 @@ cut_front items (s ∷ specs) =
     let more = cut_front (drop s.size items) specs in
     (more.0, append_assoc (take s.size items) (all_items (cut (drop s.size items) specs)) more.0 ∙ ap (λ l. take s.size items ++ l) more.1 ∙ take-append-drop s.size items)
 
--- Where the sizes add up to the items, the disks hold all items in order.
+-- If the sizes add up to the number of items, the disks hold all items in order.
 pub cut_items : (items : List ℕ) (specs : List DiskSpec) → sum_by (λ s. s.size) specs ≡ length items → all_items (cut items specs) ≡ items
 unfolding cut all_items
 cut_items items [] sum = sym (nil_from_length items (sym sum))

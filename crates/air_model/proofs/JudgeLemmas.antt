@@ -1,5 +1,5 @@
--- A list that a history aired has one session, by either judge.
--- On reads of the history the judges' clashes are one; then each rule gives one state, word by word.
+-- A list that a history aired has one session, by either judge. On reads of the history the judges' clashes are equal; then
+-- each rule gives equal states.
 use Rattle.std.proofs.Common.{◌≡◌, ℕ, zero, suc, ◌-◌, ◌<◌, ◌≤◌, max, Bool, true, false, cond, ◌||◌, nat_lt, Option, Some, None, List, [], ◌∷◌, ◌++◌, length, map, get_or, All, refl, sym, ◌∙◌, ap, subst, arith}
 use Rattle.std.specs.Prelude.{AllPairs, IfSome, IsTrue, sum_by}
 use Rattle.std.specs.Option.{is_some}
@@ -26,14 +26,15 @@ use Rattle.air_model.specs.Buckets.{Bucket, capped_body, has_ages}
 use Rattle.air_model.specs.Reads.{Read}
 use Rattle.air_model.specs.Aired.{Air, fits, body_of, aired_as, bucket_of, edition_at, slots_at, IsAiredBucket, SlotsFit, IsAired}
 use Rattle.air_model.specs.Judges.{place_of, heard_of, by_history, by_entries}
-use Rattle.air_model.specs.Sessions.{Reader, Line, State, start, read_in, is_wanted, wanted, comes_aged, comes_late, query_of, next_query, next_attempt, copy_of, drop_copy, offer, line_of, with_line, count_copied, count_opened, accept_if_whole, hold, abort, is_unusable, turn_with, turn, settle, decide, end_aged, judge_read, open_bucket, hear_read, hear, hear_all, end_query, end, session}
+use Rattle.air_model.specs.Sessions.{Reader, SessionLine, State, start, read_in, is_wanted, wanted, comes_aged, comes_late, query_of, next_query, next_attempt, copy_of, drop_copy, offer, line_of, with_line, count_copied, count_opened, accept_if_whole, hold, abort, is_unusable, turn_with, turn, settle, decide, end_aged, judge_read, open_bucket, hear_read, hear, hear_all, end_query, end, session}
 use Rattle.air_model.specs.SessionLaws.{QueriesFilled, are_far}
 use Rattle.air_model.proofs.AiredLemmas.{fit_parts}
 use Rattle.air_model.proofs.CapLemmas.{at_or_none}
 use Rattle.air_model.proofs.HeardLemmas.{MayBeHeard, has_capped, has_full, have_aired, told_by}
 use Rattle.air_model.proofs.MomentLemmas.{Good, Keeps, Gives, lies_far, turn_good, settle_good, hear_good, hear_all_good, end_query_good, start_good, copy_of_is}
 
--- The read is one of H, with H's value and the entries that were aired with it, in full or as ages tell them where the air has ages.
+-- The read is one of H: it has H's value, and the entries that were aired with it, in full or, if the air has ages, as ages
+-- give them.
 pub record IsReadOf (values : List ℕ) (air : Air) (H : List Event) (x : Read) : Type 0 where
   pub value : x.value ≡ read_value (values_of values) H (place_of x)
   pub heard : MayBeHeard air.scheme air.version air.items H (heard_of x)
@@ -81,7 +82,7 @@ or_same false false true b c h = refl
 or_same false false false b c h = h refl refl
 
 module _ (V : List ℕ) (air : Air) (H : List Event) (reader : Reader) (filled : QueriesFilled reader) where
-  -- what the held reads keep
+  -- what holds of the held reads
   abbrev K : ℕ → ℕ → List Read → Type 0
   K q a R = All (IsReadOf V air H) R × IsAllowed air.scheme.policy (map place_of R)
 
@@ -118,7 +119,7 @@ module _ (V : List ℕ) (air : Air) (H : List Event) (reader : Reader) (filled :
 
   line_same : (q a : ℕ) (kind : VerdictKind) (R : List Read) → All (IsReadOf V air H) R → line_of (by_history air.scheme V H) q a kind R ≡ line_of (by_entries air.scheme) q a kind R
   unfolding line_of by_history by_entries
-  line_same q a kind R k = ap (λ rs. let l : Line = record { verdict = record { query = q; attempt = a; kind = kind }; reads = rs } in l)
+  line_same q a kind R k = ap (λ rs. let l : SessionLine = record { verdict = record { query = q; attempt = a; kind = kind }; reads = rs } in l)
       (map_same (λ r. let x : ReadOf = record { item = r.item; cycle = r.cycle; value = read_value (values_of V) H (place_of r) } in x) (λ r. record { item = r.item; cycle = r.cycle; value = r.value }) R
       (λ i d l. ap (λ v. let x : ReadOf = record { item = (get_or R i d).item; cycle = (get_or R i d).cycle; value = v } in x) (sym (k i d l).value)))
 
@@ -222,7 +223,7 @@ module _ (V : List ℕ) (air : Air) (H : List Event) (reader : Reader) (filled :
 
 -- ---- what an aired bucket gives
 
--- No newer version than one without ages has ages.
+-- A version that isn't newer than one without ages has no ages.
 older_full : (v w : ℕ) → v ≤ w → has_ages w ≡ false → has_ages v ≡ false
 older_full v w l full = let less = leb-false 2 w full in lt-leb 2 v (omega arith)
 

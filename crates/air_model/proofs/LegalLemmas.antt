@@ -1,4 +1,4 @@
--- Legal histories, updater by updater; the script's history; and what updates of a deck bring into a history.
+-- Legal histories, updater by updater; the script's history; and what updates of a deck give a history.
 use Rattle.std.proofs.Common.{◌≡◌, ℕ, zero, suc, ◌+◌, Bool, true, false, cond, ◌==◌, Some, List, [], ◌∷◌, length, take, drop, refl, sym, ◌∙◌, ap, subst, arith, ◌↔◌}
 use Rattle.std.specs.List.{slice_get}
 use Rattle.std.proofs.lemmas.Bool.{eqb-true, eq-eqb}
@@ -22,7 +22,7 @@ dropped (x ∷ us) (suc n) u e = dropped us n u e
 abbrev number_made : ℕ → List Event → ℕ
 number_made by H = length (made_by by H)
 
--- From place 0 on, each commit of the updater is its next, where n were made before.
+-- From place 0 on, each commit of the updater is its next, if n were made before.
 abbrev Follows : ℕ → List UpdateLists → ℕ → List Event → Type 0
 Follows by us n H = (p seq : ℕ) (u : UpdateLists) → slice_get H p ≡ Some (Commit by seq u) → (seq ≡ n + number_made by (take p H)) × (slice_get us seq ≡ Some u)
 

@@ -23,7 +23,7 @@ use Rattle.air_model.specs.Aired.{IsAired, air_of, body_fits, body_of, bucket_of
 use Rattle.air_model.specs.Judges.{Judge, by_entries, by_history}
 use Rattle.air_model.specs.ReceiverLaws.{IsTrueSession, session_of}
 use Rattle.air_model.specs.SessionLaws.{CyclesFromOne, IsExactLine, follows_query, IsOfReader, IsSoundLine, NamesHeld, after}
-use Rattle.air_model.specs.Sessions.{Line, abort, accept_if_whole, copy_of, count_copied, count_dozed, count_foreign, count_late, count_opened, count_refused, decide, drop_copy, end, end_query, hear, hear_all, hear_read, hold, is_unusable, line_of, next_attempt, next_query, offer, open_bucket, query_of, reader_of, session, settle, start, turn, turn_with, wanted, with_line, end_aged, judge_read}
+use Rattle.air_model.specs.Sessions.{SessionLine, abort, accept_if_whole, copy_of, count_copied, count_dozed, count_foreign, count_late, count_opened, count_refused, decide, drop_copy, end, end_query, hear, hear_all, hear_read, hold, is_unusable, line_of, next_attempt, next_query, offer, open_bucket, query_of, reader_of, session, settle, start, turn, turn_with, wanted, with_line, end_aged, judge_read}
 use Rattle.air_model.proofs.AiredLemmas.{aired}
 use Rattle.air_model.proofs.NameLemmas.{names}
 use Rattle.air_model.proofs.ReceiverLemmas.{receiver}
@@ -37,20 +37,20 @@ unfolding event_of script_history starts is_start cut order order_with chunk chu
 own_buckets_aired = aired (values_in pair) (air_of pair) (script_history pair) (all_of pair)
     (All-from_recursion (λ o. IfSome o (Contains (buckets_of (values_in pair) (air_of pair) (script_history pair)))) (all_of pair) ((0, omega arith, refl), ((1, omega arith, refl), tt)))
 
--- So the session over them is true.
+-- The session over them is true.
 pub true_session : IsTrueSession pair (script_history pair) 0 (all_of pair)
 true_session = receiver pair (script_history pair) 0 (all_of pair) pair_is_deck (omega arith) own_buckets_aired
 
 -- Its one line accepts the query.
-abbrev accept_line : Line
+abbrev accept_line : SessionLine
 accept_line = line 0 1 Accept (read 0 1 10 ∷ read 1 1 20 ∷ [])
 
 one_line : (session_of (by_entries (scheme_of FMatrix)) pair 0 (all_of pair)).lines ≡ accept_line ∷ []
 unfolding column_entry front greatest starts is_start table event_of script_history cut order order_with chunk chunk_len least_common_multiple minor_cycle num_chunks num_minors program chunks_of disk_number pix_number body_fits body_of bucket_of capped_entries capped_body buckets_of fits by_entries clash_by_entries is_late least keep with_copy without_item abort accept_if_whole copy_of count_copied count_dozed count_foreign count_late count_opened count_refused decide drop_copy end end_query hear hear_all hear_read hold is_unusable line_of next_attempt next_query offer open_bucket end_aged judge_read query_of session settle turn turn_with wanted with_line
 one_line = refl
 
--- What the session's lines keep, that line keeps: it is sound, exact, and the reader's own.
-kept : (P : Line → Type 0) → All P ((session_of (by_entries (scheme_of FMatrix)) pair 0 (all_of pair)).lines) → P accept_line
+-- What holds of the session's lines holds of that line: it is sound, exact, and the reader's own.
+kept : (P : SessionLine → Type 0) → All P ((session_of (by_entries (scheme_of FMatrix)) pair 0 (all_of pair)).lines) → P accept_line
 kept P h = subst (All P) one_line h 0 accept_line (omega arith)
 
 pub sound_line : IsSoundLine (values_in pair) FMatrix (script_history pair) accept_line
@@ -63,7 +63,7 @@ own_line = kept (IsOfReader (reader_of pair 0))
 pub exact_line : IsExactLine 1 (script_history pair) (reader_of pair 0) accept_line
 exact_line = kept (IsExactLine 1 (script_history pair) (reader_of pair 0)) (true_session.exact refl)
 
--- ---- lines that aren't so
+-- ---- lines of which that doesn't hold
 
 -- The chain's history, in which item 0 of cycle 1 and item 1 of cycle 2 aren't consistent.
 abbrev chain : Deck
@@ -77,12 +77,12 @@ pub record NoLines : Type 0 where
   -- reads that aren't consistent are neither accepted nor unfinished
   accepted_not_consistent : IsExactLine 1 (script_history chain) (reader_of chain 0) (line 0 1 Accept (read 0 1 10 ∷ read 1 2 13 ∷ [])) → ⊥
   unfinished_not_consistent : IsExactLine 1 (script_history chain) (reader_of chain 0) (line 0 1 Unfinished (read 0 1 10 ∷ read 1 2 13 ∷ [])) → ⊥
-  -- consistent ones aren't aborted
+  -- consistent reads aren't aborted
   aborted_consistent : IsExactLine 1 (script_history pair) (reader_of pair 0) (line 0 1 (Abort 1 1 0) (read 0 1 10 ∷ [])) → ⊥
-  -- a query isn't accepted on a part of its items, and isn't unfinished where all were read
+  -- a query isn't accepted on a part of its items, and isn't unfinished if all were read
   accepted_part : IsExactLine 1 (script_history pair) (reader_of pair 0) (line 0 1 Accept (read 0 1 10 ∷ [])) → ⊥
   unfinished_whole : IsExactLine 1 (script_history pair) (reader_of pair 0) (line 0 1 Unfinished (read 0 1 10 ∷ read 1 1 20 ∷ [])) → ⊥
-  -- by ages, reads that lie 255 cycles apart are aged alone, and those that lie 254 apart aren't
+  -- by ages, reads that are 255 cycles apart can only be aged, and those that are 254 apart aren't aged
   accepted_far : IsExactLine 2 (script_history pair) (reader_of pair 0) (line 0 1 Accept (read 0 1 10 ∷ read 1 256 20 ∷ [])) → ⊥
   aborted_far : IsExactLine 2 (script_history pair) (reader_of pair 0) (line 0 1 (Abort 1 256 0) (read 0 1 10 ∷ [])) → ⊥
   unfinished_far : IsExactLine 2 (script_history pair) (reader_of pair 0) (line 0 1 Unfinished (read 0 1 10 ∷ read 1 256 20 ∷ [])) → ⊥
@@ -90,9 +90,9 @@ pub record NoLines : Type 0 where
   aged_in_full : IsExactLine 1 (script_history pair) (reader_of pair 0) (line 0 1 (Aged 1 256) (read 0 1 10 ∷ [])) → ⊥
   -- a line of reads that aren't consistent isn't sound
   not_consistent : IsSoundLine (values_in chain) FMatrix (script_history chain) (line 0 1 Accept (read 0 1 10 ∷ read 1 2 13 ∷ [])) → ⊥
-  -- nor is one under Datacycle whose reads share no cycle
+  -- a line under Datacycle whose reads share no cycle isn't sound either
   not_shared : IsSoundLine (values_in apart) Datacycle (script_history apart) (line 0 1 Accept (read 0 1 10 ∷ read 1 2 21 ∷ [])) → ⊥
-  -- nor one with a wrong value: item 1 has 20
+  -- nor is one with a wrong value: item 1 has 20
   wrong_value : IsSoundLine (values_in pair) FMatrix (script_history pair) (line 0 1 Accept (read 0 1 10 ∷ read 1 1 21 ∷ [])) → ⊥
 
 pub no_lines : NoLines
@@ -113,7 +113,7 @@ no_lines = record {
   wrong_value = λ h. let e : 21 ≡ 20 = h.by_ancestors (All-from_recursion BasesRead (script_history pair) (tt, tt)) 1 (read 1 1 21) (omega arith) in omega arith;
 }
 
--- Where they lie 255 apart, an aged line is exact.
+-- If they are 255 cycles apart, an aged line is exact.
 pub aged_line : IsExactLine 2 (script_history pair) (reader_of pair 0) (line 0 1 (Aged 1 256) (read 0 1 10 ∷ []))
 unfolding spans_too_far span
 aged_line = record {
@@ -123,7 +123,7 @@ aged_line = record {
   unfinished = (λ e. cc, λ a. let e : true ≡ false = a.0 in cc);
 }
 
--- A line that stands before those of a state.
+-- A line before those of a state.
 lines_after : (after (accept_line ∷ []) (record start { lines = line 1 1 Unfinished [] ∷ [] })).lines ≡ accept_line ∷ line 1 1 Unfinished [] ∷ []
 lines_after = refl
 
@@ -139,7 +139,7 @@ pub follow : (follows_query (0 ∷ 1 ∷ []) Accept (0 ∷ 1 ∷ []) ≡ true) �
 unfolding follows_query
 follow = (refl, refl, refl)
 
--- Items in another order don't; nor does one item alone where the query was accepted, or both where it is unfinished.
+-- Items in another order don't follow it; nor does one item if the query was accepted, or both if it is unfinished.
 not_follow : (follows_query (0 ∷ 1 ∷ []) Accept (1 ∷ 0 ∷ []) ≡ false) × (follows_query (0 ∷ 1 ∷ []) Accept (0 ∷ []) ≡ false) × (follows_query (0 ∷ 1 ∷ []) Unfinished (0 ∷ 1 ∷ []) ≡ false)
 unfolding follows_query
 not_follow = (refl, refl, refl)
@@ -155,12 +155,12 @@ aged_follows : (follows_query (0 ∷ 1 ∷ []) (Aged 1 256) (0 ∷ []) ≡ true)
 unfolding follows_query
 aged_follows = (refl, refl, refl, refl)
 
--- Nor do items that aren't the query's first ones, before the next one was refused or where one is missing.
+-- Items that aren't the query's first ones don't follow it, before a refused item or before a missing one.
 not_the_first_ones : (follows_query (0 ∷ 1 ∷ 2 ∷ []) (Abort 2 3 0) (1 ∷ 0 ∷ []) ≡ false) × (follows_query (0 ∷ 1 ∷ []) Unfinished (1 ∷ []) ≡ false)
 unfolding follows_query
 not_the_first_ones = (refl, refl)
 
--- Cycles count from 1 where the bucket fits; of one that doesn't, of another edition, nothing is asked.
+-- Cycles count from 1 if the bucket fits; for one of another edition, which doesn't fit, nothing is required.
 pub cycles_from_one : CyclesFromOne (air_of pair) (Some (record { version = 1; edition = 0; cycle = 1; slot = 0; body = Column 0 10 (0 ∷ 0 ∷ []) })
     ∷ None ∷ Some (record { version = 1; edition = 1; cycle = 0; slot = 0; body = Column 0 10 (0 ∷ 0 ∷ []) }) ∷ [])
 unfolding fits
@@ -168,7 +168,7 @@ cycles_from_one = All-from_recursion (λ o. IfSome o (λ b. IsTrue (fits (air_of
     (Some (record { version = 1; edition = 0; cycle = 1; slot = 0; body = Column 0 10 (0 ∷ 0 ∷ []) }) ∷ None ∷ Some (record { version = 1; edition = 1; cycle = 0; slot = 0; body = Column 0 10 (0 ∷ 0 ∷ []) }) ∷ [])
     (λ _. omega arith, (tt, (λ f. absurd (false≢true f), tt)))
 
--- Both judges name a held item; one that names item 7 whatever is held doesn't.
+-- Both judges name a held item; a judge that always names item 7 doesn't.
 pub name_held : NamesHeld (by_history (scheme_of FMatrix) (values_in pair) (script_history pair)) × NamesHeld (by_entries (scheme_of FMatrix))
 name_held = names (scheme_of FMatrix) (values_in pair) (script_history pair)
 

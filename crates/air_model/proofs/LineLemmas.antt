@@ -12,19 +12,19 @@ use Rattle.air_model.specs.Reads.{Read}
 use Rattle.air_model.specs.Aired.{Air, fits}
 use Rattle.air_model.specs.Judges.{Judge}
 use Rattle.air_model.specs.Sessions
-use Rattle.air_model.specs.Sessions.{Reader, Line, State, read_in, is_wanted, wanted, comes_aged, comes_late, query_of, next_query, next_attempt, copy_of, drop_copy, offer, with_line, line_of, count_copied, count_opened, count_dozed, count_late, count_refused, count_foreign, accept_if_whole, hold, abort, is_unusable, turn_with, turn, settle, decide, end_aged, judge_read, open_bucket, hear_read, hear, end_query}
+use Rattle.air_model.specs.Sessions.{Reader, SessionLine, State, read_in, is_wanted, wanted, comes_aged, comes_late, query_of, next_query, next_attempt, copy_of, drop_copy, offer, with_line, line_of, count_copied, count_opened, count_dozed, count_late, count_refused, count_foreign, accept_if_whole, hold, abort, is_unusable, turn_with, turn, settle, decide, end_aged, judge_read, open_bucket, hear_read, hear, end_query}
 use Rattle.air_model.specs.SessionLaws.{after}
 
-cond_after : (L : List Line) (b : Bool) (x y : State) → cond b (after L x) (after L y) ≡ after L (cond b x y)
+cond_after : (L : List SessionLine) (b : Bool) (x y : State) → cond b (after L x) (after L y) ≡ after L (cond b x y)
 cond_after L true x y = refl
 cond_after L false x y = refl
 
-copy_after : (L : List Line) (w : Option ℕ) (s : State) → copy_of w (after L s) ≡ copy_of w s
+copy_after : (L : List SessionLine) (w : Option ℕ) (s : State) → copy_of w (after L s) ≡ copy_of w s
 unfolding copy_of
 copy_after L None s = refl
 copy_after L (Some i) s = refl
 
-module _ (judge : Judge) (air : Air) (reader : Reader) (L : List Line) where
+module _ (judge : Judge) (air : Air) (reader : Reader) (L : List SessionLine) where
   line_after : (kind : VerdictKind) (s : State) → with_line judge kind (after L s) ≡ after L (with_line judge kind s)
   unfolding with_line
   line_after kind s = ap (λ ls. let t : State = record s { lines = ls } in t) (append_assoc L s.lines (line_of judge s.query s.attempt kind s.held ∷ []))
@@ -103,14 +103,14 @@ module _ (judge : Judge) (air : Air) (reader : Reader) (L : List Line) where
       ap (λ t. let u : State = record t { copies = [] } in u)
       (ap (λ t. cond b (next_query t) (after L s)) (line_after Unfinished s) ∙ cond_after L b (next_query (with_line judge Unfinished s)) s)
 
--- Lines are only added at the end, and none is looked at: so each may be handed out as it comes.
-pub record AddsLines (judge : Judge) (air : Air) (reader : Reader) (L : List Line) (s : State) : Type 0 where
+-- Lines are only added at the end, and no rule looks at them, so each line may be handed out as it comes.
+pub record AddsLines (judge : Judge) (air : Air) (reader : Reader) (L : List SessionLine) (s : State) : Type 0 where
   pub turn : Sessions.turn judge air reader (after L s) ≡ after L (Sessions.turn judge air reader s)
   pub settle : Sessions.settle judge air reader (after L s) ≡ after L (Sessions.settle judge air reader s)
   pub hear : (o : Option Bucket) → Sessions.hear judge air reader o (after L s) ≡ after L (Sessions.hear judge air reader o s)
   pub end_query : Sessions.end_query judge air reader (after L s) ≡ after L (Sessions.end_query judge air reader s)
 
-pub lines : (judge : Judge) (air : Air) (reader : Reader) (L : List Line) (s : State) → AddsLines judge air reader L s
+pub lines : (judge : Judge) (air : Air) (reader : Reader) (L : List SessionLine) (s : State) → AddsLines judge air reader L s
 lines judge air reader L s = record {
   turn = turn_after judge air reader L s;
   settle = settle_after judge air reader L s;

@@ -1,5 +1,5 @@
--- What stands at every moment of a session: one induction over its rules, from which the laws on lines follow.
--- `Keeps` says what is to be shown of reads, held reads and lines; `kept` that all lines then have it.
+-- What holds at every moment of a session: one induction over its rules, from which the laws on lines follow. `Keeps` says what
+-- is to be shown of reads, held reads and lines; `kept` says that all lines then have it.
 use Rattle.std.proofs.Common.{◌≡◌, ℕ, zero, suc, ◌+◌, ◌-◌, ◌<◌, Bool, true, false, cond, ◌||◌, ◌==◌, nat_lt, Option, Some, None, List, [], ◌∷◌, ◌++◌, length, map, get_or, All, refl, sym, ap, subst, arith, max}
 use Rattle.std.specs.Prelude.{IfSome, IsTrue, sum_by}
 use Rattle.std.specs.List.{find, slice_get}
@@ -17,7 +17,7 @@ use Rattle.air_model.specs.Copies.{keep, without_item, with_copy}
 use Rattle.air_model.specs.Aired.{Air, fits}
 use Rattle.air_model.specs.Judges.{Judge, place_of}
 use Rattle.air_model.specs.SessionLaws.{are_far}
-use Rattle.air_model.specs.Sessions.{Reader, Line, State, start, read_in, is_wanted, query_of, wanted, comes_aged, comes_late, next_query, next_attempt, copy_of, drop_copy, offer, line_of, with_line, count_copied, count_opened, count_dozed, count_late, count_refused, count_foreign, accept_if_whole, hold, abort, is_unusable, turn_with, turn, settle, decide, end_aged, judge_read, open_bucket, hear_read, hear, hear_all, end_query, end, session}
+use Rattle.air_model.specs.Sessions.{Reader, SessionLine, State, start, read_in, is_wanted, query_of, wanted, comes_aged, comes_late, next_query, next_attempt, copy_of, drop_copy, offer, line_of, with_line, count_copied, count_opened, count_dozed, count_late, count_refused, count_foreign, accept_if_whole, hold, abort, is_unusable, turn_with, turn, settle, decide, end_aged, judge_read, open_bucket, hear_read, hear, hear_all, end_query, end, session}
 
 -- The item that the query q wants after the reads R.
 abbrev pub item_after : Reader → ℕ → List Read → Option ℕ
@@ -28,12 +28,12 @@ pub record IsJudged (air : Air) (reader : Reader) (q : ℕ) (R : List Read) (x :
   pub wanted : item_after reader q R ≡ Some x.item
   pub in_time : is_late air.scheme.policy (map place_of R) (place_of x) ≡ false
 
--- Whether the new read x and the held ones R lie too far apart for the air's version.
+-- Whether the new read x and the held ones R are too far apart for the air's version.
 abbrev pub lies_far : Air → List Read → Read → Bool
 lies_far air R x = are_far air.version (map place_of R ++ place_of x ∷ [])
 
--- Q of each read that was heard, K of the query, the attempt and its held reads, and L of each line stand at every moment.
-pub record Keeps (judge : Judge) (air : Air) (reader : Reader) (Q : Read → Type 0) (K : ℕ → ℕ → List Read → Type 0) (L : Line → Type 0) : Type 0 where
+-- Q of each read that was heard, K of the query, the attempt and its held reads, and L of each line hold at every moment.
+pub record Keeps (judge : Judge) (air : Air) (reader : Reader) (Q : Read → Type 0) (K : ℕ → ℕ → List Read → Type 0) (L : SessionLine → Type 0) : Type 0 where
   pub first : (q : ℕ) → K q 1 []
   pub again : (q a : ℕ) (R : List Read) → K q a R → a < reader.plan.tries → K q (a + 1) []
   pub more : (q a : ℕ) (R : List Read) (x : Read) → K q a R → Q x → IsJudged air reader q R x → lies_far air R x ≡ false → judge.clash R x ≡ None → K q a (R ++ x ∷ [])
@@ -42,7 +42,7 @@ pub record Keeps (judge : Judge) (air : Air) (reader : Reader) (Q : Read → Typ
   pub aged : (q a : ℕ) (R : List Read) (x : Read) → K q a R → Q x → IsJudged air reader q R x → lies_far air R x ≡ true → L (line_of judge q a (Aged x.item x.cycle) R)
   pub unfinished : (q a : ℕ) (R : List Read) → K q a R → is_some (item_after reader q R) ≡ true → L (line_of judge q a Unfinished R)
 
--- Q of the read that a heard member gives where it fits.
+-- Q of the read that a heard member gives, if it fits.
 abbrev pub Gives : Air → (Read → Type 0) → Option Bucket → Type 0
 Gives air Q None = Unit {0}
 Gives air Q (Some b) = IsTrue (fits air b) → IfSome (read_in b.cycle b.body) Q
@@ -80,13 +80,13 @@ first_some : (xs : List ℕ) → 0 < length xs → is_some (slice_get xs 0) ≡ 
 first_some [] h = absurd (omega arith)
 first_some (x ∷ xs) h = refl
 
-pub record Good (reader : Reader) (Q : Read → Type 0) (K : ℕ → ℕ → List Read → Type 0) (L : Line → Type 0) (s : State) : Type 0 where
+pub record Good (reader : Reader) (Q : Read → Type 0) (K : ℕ → ℕ → List Read → Type 0) (L : SessionLine → Type 0) (s : State) : Type 0 where
   pub held : K s.query s.attempt s.held
   pub copies : All Q s.copies
   pub lines : All L s.lines
   pub unread : s.query < length reader.queries → is_some (wanted reader s) ≡ true
 
-module _ (judge : Judge) (air : Air) (reader : Reader) (Q : Read → Type 0) (K : ℕ → ℕ → List Read → Type 0) (L : Line → Type 0)
+module _ (judge : Judge) (air : Air) (reader : Reader) (Q : Read → Type 0) (K : ℕ → ℕ → List Read → Type 0) (L : SessionLine → Type 0)
     (filled : All (λ q. 0 < length q) reader.queries) (rules : Keeps judge air reader Q K L) where
   pub next_query_good : (s : State) → All Q s.copies → All L s.lines → Good reader Q K L (next_query s)
   unfolding next_query wanted query_of
@@ -200,8 +200,8 @@ module _ (judge : Judge) (air : Air) (reader : Reader) (Q : Read → Type 0) (K 
   unfolding wanted query_of
   start_good = record { held = rules.first 0; copies = All-nil Q; lines = All-nil L; unread = λ l. first_some (get_or reader.queries 0 []) (filled 0 [] l) }
 
--- Lines have L wherever the rules keep Q, K and L, and each heard member that fits gives Q.
-pub kept : (judge : Judge) (air : Air) (reader : Reader) (Q : Read → Type 0) (K : ℕ → ℕ → List Read → Type 0) (L : Line → Type 0) →
+-- If the rules keep Q, K and L, and each heard member that fits gives Q, all lines have L.
+pub kept : (judge : Judge) (air : Air) (reader : Reader) (Q : Read → Type 0) (K : ℕ → ℕ → List Read → Type 0) (L : SessionLine → Type 0) →
     All (λ q. 0 < length q) reader.queries → Keeps judge air reader Q K L → (heard : List (Option Bucket)) → All (Gives air Q) heard →
     All L (session judge air reader heard).lines
 unfolding session

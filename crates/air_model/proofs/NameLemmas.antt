@@ -1,4 +1,4 @@
--- A clash is one of the held reads: each policy takes the least of some that it names among these.
+-- A clash is with one of the held reads: each policy takes the least of those that it names among these.
 use Rattle.std.proofs.Common.{◌≡◌, ℕ, zero, suc, Bool, true, false, cond, nat_le, Option, Some, None, List, [], ◌∷◌, map, refl, ◌∙◌, ap, subst, arith}
 use Rattle.std.specs.Prelude.{Contains}
 use Rattle.std.specs.List.{filter}

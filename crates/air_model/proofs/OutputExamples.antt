@@ -89,19 +89,19 @@ pub record Printed : Type 0 where
   mixed : script_output (through 7 50 50 50 (record pair { script = s ∷ s ∷ s ∷ s ∷ [] })) ≡ codes "start\nstart\nstart\nstart\naccept,0,0,1,0@2=10 1@3=20\ncounts,0,2,4,0,0,0,0\n"
   -- All are late: what is heard is item 1 of cycle 1, item 0 of cycle 2, item 0 of cycle 1, item 1 of cycle 2.
   all_late : script_output (through 7 0 0 100 (record pair { script = s ∷ s ∷ [] })) ≡ codes "start\nstart\naccept,0,0,1,0@2=10 1@2=20\ncounts,0,2,2,0,0,0,0\n"
-  -- A byte too many and an entry that isn't below the cycle are refused, and one entry too many is foreign.
+  -- A byte too many and an entry that isn't below the cycle are refused; a bucket with one entry too many is foreign.
   tune : tune_output pair (
       (first ++ 0 ∷ []) ∷ (0x41 ∷ 0x44 ∷ 1 ∷ 1 ∷ 0 ∷ 0 ∷ 0 ∷ 2 ∷ 0 ∷ 0 ∷ 0 ∷ 1 ∷ 0 ∷ 0 ∷ 0 ∷ 0 ∷ 0 ∷ 0 ∷ 0 ∷ 0 ∷ 0 ∷ 0 ∷ 0 ∷ 10 ∷ 0 ∷ 0 ∷ 0 ∷ 1 ∷ replicate 4 0)
       ∷ spelling (record { version = 1; edition = 0; cycle = 1; slot = 0; body = Column 0 10 (0 ∷ 0 ∷ 0 ∷ []) }) ∷ first ∷ second ∷ [])
       ≡ codes "accept,0,0,1,0@1=10 1@1=20\ncounts,0,2,0,0,2,1,0\n"
-  -- In version 2 the text is the same, and the tape has a byte an entry.
+  -- In version 2 the text is the same, and the tape has one byte for each entry.
   aged_script : script_output (aired_in 2 pair) ≡ codes "start\naccept,0,0,1,0@1=10 1@1=20\ncounts,0,2,0,0,0,0,0\n"
   aged_tape : script_tape (aired_in 2 pair) ≡ 0 ∷ 0 ∷ 0 ∷ 26 ∷ first_aged ++ 0 ∷ 0 ∷ 0 ∷ 26 ∷ second_aged
-  -- A deck of version 2 hears the tape of version 1, and that of version 1 none of version 2.
+  -- A deck of version 2 hears the tape of version 1; a deck of version 1 hears none of version 2.
   older_tape : tune_output (aired_in 2 pair) (first ∷ second ∷ []) ≡ codes "accept,0,0,1,0@1=10 1@1=20\ncounts,0,2,0,0,0,0,0\n"
   newer_tape : tune_output pair (first_aged ∷ second_aged ∷ []) ≡ codes "unfinished,0,0,1,\ncounts,0,0,0,0,0,2,0\n"
   tune_nothing : tune_output pair [] ≡ codes "unfinished,0,0,1,\ncounts,0,0,0,0,0,0,0\n"
-  -- A run tells of the history that its threads made, and not of the script's: here of two cycles, where the script has one.
+  -- A run prints the history that its threads made, and not the script's: here it has two cycles, and the script has one.
   run_of_its_own : run_output pair two_starts [] [] ≡ codes "start\nstart\naccept,0,0,1,0@1=10 1@1=20\ncounts,0,2,2,0,0,0,0\n"
   tape_of_its_own : length (run_tape pair two_starts) ≡ 144
   -- Monitors that saw the catalog and the first cycle.
@@ -113,16 +113,16 @@ pub record Printed : Type 0 where
   -- A cast has no verdicts and no counts.
   cast : cast_output (script_history pair) (record { monitor = 0; cycle = 0; total = 30 } ∷ []) [] ≡ codes "start\nglance,0,0,30\n"
   plan : plan_output pair ≡ codes "program,2,1,2\ndisk,0,1,1,2\nminor,0,0 1\nitem,0,0,1,2,0,1\nitem,1,0,1,2,1,1\n"
-  -- Of two readers each has its own queries; all verdicts stand before all counts.
+  -- Each of two readers has its own queries; all verdicts come before all counts.
   readers : script_output (two_readers ((0 ∷ []) ∷ []) ((1 ∷ []) ∷ (0 ∷ []) ∷ []))
       ≡ codes "start\naccept,0,0,1,0@1=10\naccept,1,0,1,1@1=20\nunfinished,1,1,1,\ncounts,0,1,1,0,0,0,0\ncounts,1,1,1,0,0,0,0\n"
-  -- And each has its own plan: the second one tries again, and its last line tells of its second attempt.
+  -- Each has its own plan: the second one tries again, and its last line is for its second attempt.
   plans : script_output two_plans
       ≡ codes "start\ncommit,0,0\ncommit,0,1\ncommit,0,2\nstart\nabort,0,0,1,0@1=10,1@2,0\nabort,1,0,1,0@1=10,1@2,0\nunfinished,1,0,2,0@2=11\ncounts,0,2,4,0,0,0,0\ncounts,1,3,3,0,0,0,0\n"
-  -- Through one seed each hears by a stream of its own.
+  -- With one seed each reader hears by a stream of its own.
   streams : script_output (through 7 50 50 50 (two_readers ((0 ∷ 1 ∷ []) ∷ []) ((0 ∷ 1 ∷ []) ∷ [])))
       ≡ codes "start\nunfinished,0,0,1,\nunfinished,1,0,1,0@1=10\ncounts,0,0,0,0,0,0,0\ncounts,1,1,1,0,0,0,0\n"
-  -- A commit is told by its updater and by that updater's number for it.
+  -- A commit is given by its updater and by that updater's number for it.
   updaters : script_output two_updaters ≡ codes "commit,0,0\ncommit,1,0\nstart\ncommit,0,1\naccept,0,0,1,0@1=11 1@1=21\ncounts,0,2,0,0,0,0,0\n"
   -- Each monitor has its own number.
   monitors : cast_output (script_history pair) (record { monitor = 0; cycle = 0; total = 30 } ∷ record { monitor = 1; cycle = 1; total = 30 } ∷ [])
@@ -134,7 +134,7 @@ pub record Printed : Type 0 where
   total_before_the_end : total_at (10 ∷ []) (Start ∷ raised_first) 1 ≡ 10
   total_wraps : total_at (18446744073709551615 ∷ 3 ∷ []) [] 0 ≡ 2
 
--- And it is.
+-- All this holds.
 pub printed : Printed
 unfolding span spans_too_far capped number_text escaped fields_text is_blank last_place greatest cycle_at front starts writer writer_before writes reads is_start descends descends_in column_entry vector_entry value_on_base write_of value_after table origin stale descends_from runs_alone last_alone consistent least is_late clash_by_history clash_by_entries body_at bucket_at count_of entries_at raw_entries entry_told entries_of entry_count is_placed is_shaped is_entry item_of kind_of reading spelling entry_bytes value_of record_bytes tape_of words_by due_at due_number heard_list heard_by heard_places places_due times_heard keep without_item with_copy order order_with cut program least_common_multiple num_minors num_chunks chunk_len chunk minor_cycle minor_len disk_number chunks_of gap_of next_wake pix_number plan_rows plan_text event_of script_history body_of bucket_of capped_entries capped_body buckets_of body_fits fits by_history by_entries session query_of wanted line_of with_line count_copied count_opened count_dozed count_late count_refused count_foreign next_query next_attempt accept_if_whole hold abort is_unusable drop_copy copy_of turn_with turn settle decide offer open_bucket end_aged judge_read hear_read hear hear_all end_query end rows_text report_text true_sessions total_at
 printed = record {

@@ -1,4 +1,4 @@
--- The small words of decks, programs, ethers, drills and sessions, computed at their ends.
+-- The small definitions of decks, programs, ethers, drills and sessions, computed at their ends.
 use Rattle.std.specs.Prelude.{◌≡◌, ℕ, ◌+◌, [], ◌∷◌, Some, None, true, false, get_or, length, refl}
 use Rattle.rand_pcg.specs.Lcg.{Lcg}
 use Rattle.air_base.specs.declared.verdicts.Policy.{Policy}
@@ -11,7 +11,7 @@ use Rattle.air_history.specs.Reads.{ReadAt}
 use Rattle.air_model.specs.Aired.{Air, aired_as, airs_columns}
 use Rattle.air_model.specs.Airings.{carries}
 use Rattle.air_model.specs.Buckets.{Column, Idle, Vector, number_at}
-use Rattle.air_model.specs.Decks.{count_parts, update_at, values_in}
+use Rattle.air_model.specs.Decks.{scripted_commits, update_at, values_in}
 use Rattle.air_model.specs.Draws.{Draw, ◌>>=◌, draw, draw_each, generator, gives, go_on}
 use Rattle.air_model.specs.Drills.{around, base_in_turn, draw_deck, draw_query, draw_update, draw_write, drill_disks, drill_of, drill_readers, drill_settings, turn_of}
 use Rattle.air_model.specs.Ethers.{word_of}
@@ -19,13 +19,13 @@ use Rattle.air_model.specs.Judges.{heard_of}
 use Rattle.air_model.specs.Outputs.{odds_in}
 use Rattle.air_model.specs.Reads.{Read}
 use Rattle.air_model.specs.SessionLaws.{IsAbort, IsAged, IsExact, are_far, decided_on, reads_at}
-use Rattle.air_model.specs.Sessions.{Line, comes_aged, comes_late, is_wanted, no_counts, read_in, start}
+use Rattle.air_model.specs.Sessions.{SessionLine, comes_aged, comes_late, is_wanted, no_counts, read_in, start}
 use Rattle.air_model.specs.Tapes.{TapeRead, with_record}
 use Rattle.air_model.specs.Decks.{event_of, script_history}
 use Rattle.air_model.proofs.LineExamples.{exact_line}
 use Rattle.air_model.proofs.SessionExamples.{line, pair, read, set_to, swapped_deck, update}
 
--- What is known of the air under a policy.
+-- What receivers know of the air under a policy.
 abbrev air : Policy → Air
 air policy = record { scheme = scheme_of policy; version = 1; items = 2; replans = []; slots = []; pix = [] }
 
@@ -48,17 +48,17 @@ eight = do
   x ← seven
   gives (x + 1)
 
--- A tape of one record that is cut behind it.
+-- A tape of one record that is cut after it.
 abbrev cut_behind : TapeRead
 cut_behind = record { records = (7 ∷ []) ∷ []; cut = Some 5 }
 
 -- The line that accepts the query of the small deck.
-abbrev accept_line : Line
+abbrev accept_line : SessionLine
 accept_line = line 0 1 Accept (read 0 1 10 ∷ read 1 1 20 ∷ [])
 
 pub record Parts : Type 0 where
   -- decks
-  parts_of_first : count_parts 0 (Some 0 ∷ None ∷ Some 1 ∷ Some 0 ∷ []) ≡ 2
+  parts_of_first : scripted_commits 0 (Some 0 ∷ None ∷ Some 1 ∷ Some 0 ∷ []) ≡ 2
   second_update : update_at (swapped_deck []) 0 1 ≡ update [] (set_to 1 21 ∷ [])
   no_update : update_at (swapped_deck []) 0 2 ≡ update [] []
   -- what is aired
@@ -97,7 +97,7 @@ pub record Parts : Type 0 where
   late_read : comes_late (air RMatrix) (record start { held = taken 0 2 ∷ [] }) (taken 1 1) ≡ true
   read_in_time : comes_late (air RMatrix) (record start { held = taken 0 2 ∷ [] }) (taken 1 2) ≡ false
   late_for_none : comes_late (air FMatrix) (record start { held = taken 0 2 ∷ [] }) (taken 1 1) ≡ false
-  -- a read and the held one lie too far apart in either order, and where there are ages alone
+  -- a read and the held one are too far apart in either order, and only if there are ages
   far_read : comes_aged (record (air FMatrix) { version = 2 }) (record start { held = taken 0 1 ∷ [] }) (taken 1 256) ≡ true
   far_behind : comes_aged (record (air FMatrix) { version = 2 }) (record start { held = taken 0 300 ∷ [] }) (taken 1 45) ≡ true
   near_read : comes_aged (record (air FMatrix) { version = 2 }) (record start { held = taken 0 1 ∷ [] }) (taken 1 255) ≡ false
@@ -121,12 +121,12 @@ pub record Parts : Type 0 where
   ended_aged : IsAged (Aged 1 256)
   abort_not_aged : IsAged (Abort 1 256 0) → ⊥
   aged_not_abort : IsAbort (Aged 1 256) → ⊥
-  -- 255 cycles are too far for version 2 and for those after it, 254 aren't, and in version 1 none are
+  -- 255 cycles are too far for version 2 and for later versions, 254 aren't; in version 1 no reads are too far apart
   apart : are_far 2 (at 0 1 ∷ at 1 256 ∷ []) ≡ true
   apart_later : are_far 3 (at 0 1 ∷ at 1 256 ∷ []) ≡ true
   together : are_far 2 (at 0 1 ∷ at 1 255 ∷ []) ≡ false
   in_full : are_far 1 (at 0 1 ∷ at 1 256 ∷ []) ≡ false
-  -- Both items of the query were read in one cycle; one alone is no accept.
+  -- Both items of the query were read in one cycle; one item is not enough to accept.
   exact : IsExact 1 (script_history pair) (0 ∷ 1 ∷ []) Accept (at 0 1 ∷ at 1 1 ∷ [])
   one_alone : IsExact 1 (script_history pair) (0 ∷ 1 ∷ []) Accept (at 0 1 ∷ []) → ⊥
 

@@ -1,5 +1,5 @@
--- An item that comes at one rest: how often it comes, how far apart, and how long to wait for it.
--- Nothing of disks is in it: `ComesAt` is the one thing that is known of the slots.
+-- An item that comes at the slots of one remainder: how often it comes, how far apart, and how long to wait for it. Nothing
+-- here concerns disks: `ComesAt` is all that is known of the slots.
 use Rattle.std.proofs.Common.{◌≡◌, ◌≤◌, ◌<◌, ◌↔◌, ◌⊎◌, inl, inr, ◌+◌, ◌-◌, ◌*◌, ◌%◌, ◌++◌, ℕ, zero, suc, Bool, true, false, cond, zero-add, Option, Some, None, List, [], ◌∷◌, length, length-append, get_or, take, drop, refl, sym, subst, ap, ◌∙◌, arith}
 use Rattle.std.specs.List.{count_by}
 use Rattle.std.proofs.lemmas.List.{get_or_append_left, get_or-append_right, get_or_default, get_or-drop, get_or_past, get_or-take, length-drop, length-take, nil_from_length, take-append-drop}
@@ -11,20 +11,20 @@ use Rattle.std.proofs.lemmas.Nat.Gcd.{dvd_of_mod-eq-zero}
 use Rattle.std.proofs.Math.Nat.{mul-mod_left}
 use Rattle.air_model.specs.Airings.{ComesEvery, IsNextWake, airings, carries, next_wake, slot_item}
 
--- The item is aired in just the slots that leave this rest.
+-- The item is aired in just the slots whose number leaves this remainder.
 abbrev pub ComesAt : List (Option ℕ) → ℕ → ℕ → ℕ → Type 0
 ComesAt slots i gap first = (s : ℕ) → s < length slots → (slot_item slots s ≡ Some i) ↔ (s % gap ≡ first)
 
 count_cons : {X : Type 0} (p : X → Bool) (x : X) (xs : List X) (b : Bool) → p x ≡ b → count_by p (x ∷ xs) ≡ cond b 1 0 + count_by p xs
 count_cons p x xs b e = sum_by-cons (λ y. cond (p y) 1 0) x xs ∙ ap (λ b. cond b 1 0 + count_by p xs) e
 
--- Where no place passes, none is counted.
+-- If no place passes, none is counted.
 count_none : {X : Type 0} (p : X → Bool) (xs : List X) → ((k : ℕ) (d : X) → k < length xs → p (get_or xs k d) ≡ false) → count_by p xs ≡ 0
 count_none p [] none = refl
 count_none p (x ∷ xs) none =
     count_cons p x xs false (none 0 x (omega arith)) ∙ (rw (count_none p xs (λ k d below. none (suc k) d (omega arith))) refl)
 
--- Where one place alone passes, one is counted.
+-- If just one place passes, one is counted.
 count_one : {X : Type 0} (p : X → Bool) (xs : List X) (f : ℕ) → f < length xs → ((k : ℕ) (d : X) → k < length xs → p (get_or xs k d) ≡ true → k ≡ f)
     → ((d : X) → p (get_or xs f d) ≡ true) → count_by p xs ≡ 1
 count_one p [] f below alone here = absurd (omega arith)
@@ -41,7 +41,7 @@ count_one p (x ∷ xs) (suc f) below alone here =
     by false e = e
     by true e = absurd (let z = alone 0 x (omega arith) e in omega arith)
 
--- Where the places that pass are those of one rest, one of each period is counted.
+-- If the places that pass are those of one remainder, one of each period is counted.
 pub count_periodic : {X : Type 0} (p : X → Bool) (t g f : ℕ) (xs : List X) → f < g → length xs ≡ t * g
     → ((k : ℕ) (d : X) → k < length xs → p (get_or xs k d) ≡ true → k % g ≡ f) → ((k : ℕ) (d : X) → k < length xs → k % g ≡ f → p (get_or xs k d) ≡ true)
     → count_by p xs ≡ t
@@ -60,7 +60,7 @@ count_periodic {X = X} p (suc t) g f xs below long only all =
     (λ k d under e. ap p (get_or-drop g xs k d) ∙ all (g + k) d (omega (arith, length-drop g xs)) (add-mod_left g k ∙ e)) in
     ap (count_by p) (sym (take-append-drop g xs)) ∙ sum_by-append (λ y. cond (p y) 1 0) (take g xs) (drop g xs) ∙ (rw (one, more) (omega arith))
 
--- Going round the cycle keeps the rest.
+-- Going around the cycle keeps the remainder.
 pub round_rest : (n t g : ℕ) → n % (t * g) % g ≡ n % g
 round_rest n t g = mod-mod_of_dvd g n (dvd_of_mod-eq-zero g (mul-mod_left t g))
 
@@ -75,12 +75,12 @@ turn f g k below some less e = by (cases_lt (f + k) g)
         let low : f + k - g < g = omega arith in
         let same = sym (mod-eq_of_lt low) ∙ m in omega arith
 
--- Two places of one rest are no less than a period apart.
+-- Two places of one remainder are at least a period apart.
 apart : (s g f k : ℕ) → f < g → 0 < k → k < g → s % g ≡ f → (s + k) % g ≡ f → ⊥
 apart s g f k below some less here there =
     turn f g k below some less (ap (λ x. (x + k) % g) (sym here) ∙ mod-add-mod s g k ∙ there)
 
--- The number of steps to the next place of a rest.
+-- The number of steps to the next place of a remainder.
 wake : (s g f : ℕ) → f < g → (s + (f + (g - s % g)) % g) % g ≡ f
 wake s g f below =
     let low = mod_below s g (omega arith) in
@@ -110,7 +110,7 @@ carried_within slots s i e = by (cases_lt s (length slots))
     by (inl under) = under
     by (inr over) = absurd (let past = get_or_past slots s None over in cc)
 
--- One wait alone is the least.
+-- Only one wait is the least.
 one_wake : (slots : List (Option ℕ)) (s i j k : ℕ) → IsNextWake slots s i j → IsNextWake slots s i k → j ≡ k
 one_wake slots s i j k a b = by (cases_lt j k) (cases_lt k j)
   where
@@ -119,7 +119,7 @@ one_wake slots s i j k a b = by (cases_lt j k) (cases_lt k j)
     by (inr over) (inl less) = absurd (a.first k less b.aired)
     by (inr over) (inr under) = omega arith
 
--- The slots from one on, and the cycle again, are the slots around the cycle.
+-- The slots from one on, followed by the cycle again, are the slots around the cycle.
 around : (slots : List (Option ℕ)) (s j : ℕ) → s < length slots → j < length slots → get_or (drop s slots ++ slots) j None ≡ get_or slots ((s + j) % length slots) None
 around slots s j within less = by (cases_lt (s + j) (length slots))
   where
@@ -132,7 +132,7 @@ around slots s j within less = by (cases_lt (s + j) (length slots))
         let turned : (s + j) % length slots ≡ j - (length slots - s) = ap (λ n. n % length slots) (sym back) ∙ add-mod_right (s + j - length slots) (length slots) ∙ mod-eq_of_lt low ∙ (omega arith) in
         get_or-append_right (drop s slots) slots (length slots - s) j None (length-drop s slots) (omega arith) ∙ ap (λ n. get_or slots n None) (sym turned)
 
--- The least wait is the number of slots before the item's next.
+-- The least wait is the number of slots before the item's next slot.
 wake_found : (slots : List (Option ℕ)) (s i k : ℕ) → s < length slots → k < length slots → IsNextWake slots s i k → next_wake slots s i ≡ k
 unfolding next_wake
 wake_found slots s i k within under is =

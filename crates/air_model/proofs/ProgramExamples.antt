@@ -13,7 +13,7 @@ pub greater_rate_then_smaller_number : order (1 ∷ 5 ∷ 1 ∷ 5 ∷ 9 ∷ []) 
 unfolding order order_with
 greater_rate_then_smaller_number = refl
 
--- A disk of so many items, each aired so often.
+-- A disk of this many items, each aired this often.
 abbrev spec : ℕ → ℕ → DiskSpec
 spec size freq = record { size = size; freq = freq }
 

@@ -1,4 +1,4 @@
--- The laws of the broadcast program: each item its disk's number of times, at one distance, and the least wait.
+-- The laws of the broadcast program: each item is aired as often as its disk says, at one distance, and the least wait.
 -- An item is given by its disk's place n and its own place q on the disk; the answers of the laws find both.
 use Rattle.std.proofs.Common.{◌≡◌, ◌<◌, ◌≤◌, ◌⊎◌, inl, inr, ◌+◌, ◌-◌, ◌*◌, ◌%◌, ◌==◌, ◌↔◌, ℕ, zero, suc, Bool, true, false, Some, List, length, get_or, slice_get, refl, sym, subst, ap, ◌∙◌, arith}
 use Rattle.std.specs.Prelude.{◌≢◌}

@@ -61,7 +61,7 @@ entries_below RMatrix n H c j one = map_below (vector_entry (front H c)) n c (λ
 
 -- ---- values are below 2^64
 
--- Every amount of the event is.
+-- Every amount of the event is below 2^64.
 abbrev AmountsFit : Event → Type 0
 AmountsFit e = All (λ w. w.amount < 2 ^ 64) (writes_of e)
 
@@ -148,7 +148,7 @@ body_in_range deck H can c one (Some i) h = by deck.settings.policy
     by Datacycle = record { some = omega (arith, long Datacycle, some); count = omega (arith, long Datacycle, most); placed = inr (omega (arith, long Datacycle, h)); value = value_below deck H can.made can.legal c i; entries = entries_below Datacycle n H c i one }
     by RMatrix = record { some = omega (arith, long RMatrix, some); count = omega (arith, long RMatrix, most); placed = inr (omega (arith, long RMatrix, h)); value = value_below deck H can.made can.legal c i; entries = entries_below RMatrix n H c i one }
 
--- The edition of a cycle is few.
+-- The edition of a cycle fits in 16 bits.
 edition_few : (deck : Deck) → IsDeck deck → (c : ℕ) → edition_at (air_of deck) c < 2 ^ 16
 edition_few deck is c =
     let same = edition_is deck c in

@@ -1,4 +1,5 @@
--- By any judge that names held reads each line is the reader's: its query, its attempt and its reads. The law is an instance of `kept`.
+-- For any judge that names held reads, each line is the reader's: its query, its attempt and its reads. The law is an instance
+-- of `kept`.
 use Rattle.std.proofs.Common.{◌≡◌, ℕ, ◌<◌, ◌≤◌, true, Option, Some, None, List, [], length, map, take, get_or, All, refl, sym, ◌∙◌, ap, subst, inl, inr, arith, ◌==◌}
 use Rattle.std.specs.Prelude.{Contains, IfSome}
 use Rattle.std.specs.List.{slice_get}
@@ -19,19 +20,19 @@ use Rattle.std.specs.Cmp.Lexicographic.{bytes_decides}
 use Rattle.std.proofs.lemmas.List.Folds.{list_any_at}
 use Rattle.air_model.proofs.SoundLemmas.{InQuery, in_query_more, part_of_query, whole_query}
 
--- Where something is wanted, the query is one of the reader's.
+-- If an item is wanted, the query is one of the reader's.
 query_within : (reader : Reader) (q n : ℕ) → n < length (get_or reader.queries q []) → q < length reader.queries
 query_within reader q n l = elim (cases_lt q (length reader.queries)) as (λ _. q < length reader.queries) [
   | inl lt ↦ lt
   | inr ge ↦ absurd (let e = ap length (get_or_past reader.queries q [] ge) in omega arith)
 ]
 
--- Items that are all of a query follow it.
+-- If the items are all of a query, they follow it.
 follows_all : (query items : List ℕ) → items ≡ query → follows_query query Accept items ≡ true
 unfolding follows_query
 follows_all query items e = (bytes_decides items query).1 e
 
--- So do its first ones up to a refused one, where the clash is among them.
+-- Its first items up to a refused one follow it, if the clash is among them.
 follows_to : (query : List ℕ) (item cycle clash : ℕ) (items : List ℕ) → items ≡ take (length items) query → slice_get query (length items) ≡ Some item → Contains items clash →
     follows_query query (Abort item cycle clash) items ≡ true
 unfolding follows_query
@@ -40,14 +41,14 @@ follows_to query item cycle clash items first next among =
     (and_from _ _ (ap (λ o. is_wanted o item) next ∙ eq-eqb item item refl)
     (list_any_at (λ i. i == clash) items among.0 0 among.1 (eq-eqb _ _ (get_or_default items among.0 0 clash among.1 ∙ among.2))))
 
--- Or up to one that lies too far from them.
+-- Its first items up to one that is too far from them follow it.
 follows_far : (query : List ℕ) (item cycle : ℕ) (items : List ℕ) → items ≡ take (length items) query → slice_get query (length items) ≡ Some item →
     follows_query query (Aged item cycle) items ≡ true
 unfolding follows_query
 follows_far query item cycle items first next =
     and_from _ _ ((bytes_decides items (take (length items) query)).1 first) (ap (λ o. is_wanted o item) next ∙ eq-eqb item item refl)
 
--- And its first ones where some are missing.
+-- Its first items follow it if some are missing.
 follows_in_part : (query items : List ℕ) → items ≡ take (length items) query → length items < length query → follows_query query Unfinished items ≡ true
 unfolding follows_query
 follows_in_part query items first less = and_from _ _ ((bytes_decides items (take (length items) query)).1 first) (lt-ltb (length items) (length query) less)

@@ -60,7 +60,7 @@ pair_is_deck = record {
   script = λ by. omega arith;
 }
 
--- So it is in version 2.
+-- It is well made in version 2 too.
 pub aged_pair_is_deck : IsDeck (aired_in 2 pair)
 aged_pair_is_deck = record {
   some = pair_is_deck.some;
@@ -80,20 +80,20 @@ aged_pair_is_deck = record {
   script = pair_is_deck.script;
 }
 
--- Two items that change between two cycles, which are all that its settings ask for.
+-- The same two items with a change between two cycles, which are all that its settings require.
 abbrev turned_deck : Deck
 turned_deck = record (swapped_deck (s ∷ u ∷ u ∷ s ∷ [])) { settings = record ((swapped_deck []).settings) { cycles = 2 } }
 
--- Updater 0 is no other one.
+-- Updater 0 is no other updater.
 no_other : (by : ℕ) → (0 == suc by) ≡ false
 no_other by = grind arith
 
--- Its script commits just what its updater has.
+-- Its script commits exactly what its updater has.
 turned_fits : ScriptFits turned_deck
 turned_fits zero = omega arith
 turned_fits (suc by) = rw no_other (omega arith)
 
--- So its script's history is legal, and whole.
+-- Its script's history is therefore legal, and whole.
 pub turned_is_whole : IsWhole turned_deck (script_history turned_deck)
 unfolding script_history event_of is_by starts is_start
 turned_is_whole = record {
@@ -111,7 +111,7 @@ pub made_in_order : made_by 0 (script_history turned_deck) ≡ commits_from 0 0 
 unfolding script_history event_of is_by made_by commits_from
 made_in_order = refl
 
--- The second commit is the next after the start and the first one; it isn't the next at once.
+-- The second commit is the next one after the start and the first commit; without these it isn't the next one.
 abbrev second_update : UpdateLists
 second_update = record { reads = []; writes = record { item = 1; base = None; minus = false; amount = 21 } ∷ [] }
 
@@ -133,7 +133,7 @@ not_at_once h = absurd (let one : 1 ≡ 0 = h.number in omega arith)
 
 -- ---- programs
 
--- Two items of rates 1 and 5: the second goes first.
+-- Two items of rates 1 and 5: the second is first in the order.
 pub hotter_first : IsOrder (1 ∷ 5 ∷ []) (1 ∷ 0 ∷ [])
 hotter_first = record {
   hottest_first = AllPairs-cons (λ i j. IsTrue (is_hotter (1 ∷ 5 ∷ []) i j)) 1 (0 ∷ []) (All-from_recursion (λ j. IsTrue (is_hotter (1 ∷ 5 ∷ []) 1 j)) (0 ∷ []) (refl, tt))
@@ -167,7 +167,7 @@ can_be_aired = record {
 abbrev three_slots : List (Option ℕ)
 three_slots = Some 0 ∷ Some 1 ∷ None ∷ []
 
--- From slot 2 item 1 is next aired two slots on, around the cycle's end.
+-- From slot 2 item 1 is next aired two slots later, around the cycle's end.
 pub around_the_end : IsNextWake three_slots 2 1 2
 around_the_end = record { aired = refl; first = earlier }
   where
@@ -221,12 +221,12 @@ pub first_is_bucket : IsBucket first_bytes first
 unfolding spelling entry_bytes kind_of count_of item_of value_of entries_of
 first_is_bucket = (first_in_range, refl)
 
--- With an entry that is the cycle it isn't in range.
+-- With an entry that equals the cycle, it isn't in range.
 entry_too_great : IsInRange (record first { body = Column 0 10 (1 ∷ 0 ∷ []) }) → ⊥
 unfolding entries_of
 entry_too_great h = let low : 1 < 1 = h.entries 0 0 (omega arith) in omega arith
 
--- Both ends of a byte's range; 256 is none.
+-- Both ends of a byte's range; 256 is no byte.
 pub are_bytes : AreBytes (0 ∷ 255 ∷ [])
 are_bytes = All-from_recursion (λ x. x < 256) (0 ∷ 255 ∷ []) (omega arith, (omega arith, tt))
 
@@ -251,26 +251,27 @@ pair_can_air = record { made = pair_is_deck; legal = script pair pair_is_deck.sc
 pub pair_filled : QueriesFilled (reader_of pair 0)
 pair_filled = (air pair pair_is_deck).1 0
 
--- Of a list with that bucket, bytes that are no bucket, and a bucket of another edition, the script's history aired all that fits.
+-- Of a list with that bucket, with bytes that are no bucket, and with a bucket of another edition, the script's history aired
+-- all that fits.
 pub aired_list : IsAired (values_in pair) (air_of pair) (script_history pair) (Some first ∷ None ∷ Some (record first { edition = 1; cycle = 9 }) ∷ [])
 unfolding script_history event_of order order_with cut program least_common_multiple num_minors num_chunks chunk_len chunk minor_cycle starts is_start bucket_of capped_entries capped_body body_of body_fits fits table column_entry front greatest
 aired_list = All-from_recursion (λ o. IfSome o (λ b. IsTrue (fits (air_of pair) b) → IsAiredBucket (values_in pair) (air_of pair) (script_history pair) b))
     (Some first ∷ None ∷ Some (record first { edition = 1; cycle = 9 }) ∷ [])
     (λ _. record { from_one = omega arith; started = omega arith; same = refl }, (tt, (λ f. absurd (false≢true f), tt)))
 
--- So its reader's session over that list is true: sound, and exact.
+-- Its reader's session over that list is true: sound, and exact.
 pub true_session : IsTrueSession pair (script_history pair) 0 (Some first ∷ None ∷ Some (record first { edition = 1; cycle = 9 }) ∷ [])
 true_session = receiver pair (script_history pair) 0 (Some first ∷ None ∷ Some (record first { edition = 1; cycle = 9 }) ∷ []) pair_is_deck (omega arith) aired_list
 
--- Of three slots each that has an item has one of the two.
+-- Each of three slots that has an item has one of the two.
 pub slots_fit : SlotsFit (record { scheme = scheme_of FMatrix; version = 1; items = 2; replans = []; slots = three_slots ∷ []; pix = [] ∷ [] })
 slots_fit = All-from_recursion (All (λ o. IfSome o (λ i. i < 2))) (three_slots ∷ []) (All-from_recursion (λ o. IfSome o (λ i. i < 2)) three_slots (omega arith, (omega arith, (tt, tt))), tt)
 
--- Of one item alone they don't.
+-- With only one item they don't fit.
 slots_of_more : SlotsFit (record { scheme = scheme_of FMatrix; version = 1; items = 1; replans = []; slots = [] ∷ three_slots ∷ []; pix = [] }) → ⊥
 slots_of_more h = let low : 1 < 1 = h 1 [] (omega arith) 1 None (omega arith) in omega arith
 
--- What the history looks at of the bucket.
+-- What the history uses of the bucket.
 bare_first : bare first ≡ record first { body = Column 0 0 (0 ∷ 0 ∷ []) }
 bare_first = refl
 
@@ -283,7 +284,7 @@ copy i = record { item = i; cycle = 1; value = 0; entries = [] }
 pub own_items : HaveOwnItems (copy 0 ∷ copy 1 ∷ [])
 own_items = AllPairs-cons (λ a b. a.item < b.item) (copy 0) (copy 1 ∷ []) (All-from_recursion (λ b. 0 < b.item) (copy 1 ∷ []) (omega arith, tt)) (λ i j d less within. absurd (omega arith))
 
--- Copies in another order don't stand by rising item, nor do two copies of one item.
+-- Copies in another order aren't by rising item, nor are two copies of one item.
 no_own_items : (HaveOwnItems (copy 1 ∷ copy 0 ∷ []) → ⊥) × (HaveOwnItems (copy 1 ∷ copy 1 ∷ []) → ⊥)
 no_own_items = (λ h. let less = h 0 1 (copy 0) (omega arith) (omega arith) in omega arith, λ h. let less = h 0 1 (copy 0) (omega arith) (omega arith) in omega arith)
 

@@ -1,4 +1,5 @@
--- A deck that changes its program over at cycle 2, computed: its editions, its buckets and which fit, its sessions and its plan.
+-- A deck that changes its program at cycle 2, computed: its editions, its buckets and which of them fit, its sessions and its
+-- plan.
 use Rattle.std.proofs.Common.{◌≡◌, ◌⊎◌, ℕ, ◌+◌, ◌*◌, ◌^◌, ◌<◌, ◌≤◌, true, false, List, [], ◌∷◌, ◌++◌, Some, map, All, sum_by, refl, inl, inr, arith}
 use Rattle.std.specs.Prelude.{codes, replicate}
 use Rattle.std.proofs.lemmas.List.Elements.{All-from_recursion, All-nil}
@@ -31,19 +32,19 @@ use Rattle.air_model.specs.Outputs.{plan_output}
 use Rattle.air_model.specs.PlanTexts.{edition_rows, plan_rows, plan_text, replan_rows}
 use Rattle.air_model.specs.Programs.{chunk, chunk_len, least_common_multiple, minor_cycle, minor_len, num_chunks, num_minors, program}
 use Rattle.air_model.specs.Rows.{rows_text}
-use Rattle.air_model.specs.Sessions.{Line, abort, accept_if_whole, copy_of, count_copied, count_dozed, count_foreign, count_late, count_opened, count_refused, decide, drop_copy, end, end_aged, end_query, hear, hear_all, hear_read, hold, is_unusable, judge_read, line_of, next_attempt, next_query, offer, open_bucket, query_of, session, settle, turn, turn_with, wanted, with_line}
+use Rattle.air_model.specs.Sessions.{SessionLine, abort, accept_if_whole, copy_of, count_copied, count_dozed, count_foreign, count_late, count_opened, count_refused, decide, drop_copy, end, end_aged, end_query, hear, hear_all, hear_read, hold, is_unusable, judge_read, line_of, next_attempt, next_query, offer, open_bucket, query_of, session, settle, turn, turn_with, wanted, with_line}
 use Rattle.air_model.proofs.DeckLemmas.{by_editions}
 use Rattle.air_model.proofs.SessionExamples.{aired_in, all_of, by_both, counts_with, deck, item, line, over, read, s}
 
--- A disk of so many items, each aired so often.
+-- A disk of this many items, each aired this often.
 abbrev spec : ℕ → ℕ → DiskSpec
 spec size freq = record { size = size; freq = freq }
 
--- The replan to two disks: the hottest item twice a cycle, and the two others once.
+-- The replan to two disks: the hottest item is aired twice a cycle, and the two others once.
 abbrev to_two_disks : ℕ → Replan
 to_two_disks c = record { cycle = c; disks = spec 1 2 ∷ spec 2 1 ∷ [] }
 
--- Three items of the rates 3, 2 and 1 on one disk, which are on two disks from cycle 2 on; a reader and its queries, and two starts.
+-- Three items with rates 3, 2 and 1 on one disk, and on two disks from cycle 2 on; a reader and its queries, and two starts.
 abbrev turning : ℕ × ℕ × ℕ → List (List ℕ) → Deck
 turning plan queries = record (deck (item 10 3 ∷ item 20 2 ∷ item 30 1 ∷ []) [] plan queries (s ∷ s ∷ [])) { replans = to_two_disks 2 ∷ [] }
 
@@ -92,23 +93,23 @@ editions = record {
   no_slots = refl;
 }
 
--- ---- what a deck keeps of its versions and replans
+-- ---- what a well made deck says of versions and replans
 
 abbrev replanned : List Replan → Deck
 replanned replans = record asks_both { replans = replans }
 
--- A deck of so many items in a version.
+-- A deck of this many items in a version.
 abbrev many_items : ℕ → ℕ → Deck
 many_items version n = aired_in version (record asks_both { items = replicate n (item 10 1); replans = [] })
 
--- The deck that turns twice, in these cycles.
+-- The deck with two replans, in these cycles.
 abbrev twice : ℕ → ℕ → Deck
 twice c d = replanned (to_two_disks c ∷ to_two_disks d ∷ [])
 
 abbrev is_aired : DiskSpec → Type 0
 is_aired x = (0 < x.size) × (0 < x.freq)
 
--- It is well made where the first isn't before cycle 2, and the second is later, at cycle 10,000 at most.
+-- It is well made if the first replan isn't before cycle 2, and the second is later, in cycle 10,000 at most.
 is_made : (c d : ℕ) → 2 ≤ c → c < d → d ≤ 10000 → IsDeck (twice c d)
 unfolding has_repeat
 is_made c d from less most = record {
@@ -139,12 +140,12 @@ is_made c d from less most = record {
     both = All-from_recursion is_aired (spec 1 2 ∷ spec 2 1 ∷ []) ((omega arith, omega arith), ((omega arith, omega arith), tt))
 
 pub record NotMade : Type 0 where
-  -- replans come from cycle 2 on, one after another, until cycle 10,000, 16 at most
+  -- replans are in rising cycles from 2 to 10,000, at most 16 of them
   in_the_first_cycle : IsDeck (replanned (to_two_disks 1 ∷ [])) → ⊥
   too_late : IsDeck (replanned (to_two_disks 10001 ∷ [])) → ⊥
   in_one_cycle : IsDeck (replanned (to_two_disks 2 ∷ to_two_disks 2 ∷ [])) → ⊥
   too_many : IsDeck (replanned (replicate 17 (to_two_disks 2))) → ⊥
-  -- the disks of each take all items, and each is aired
+  -- the disks of each replan take all items, and each disk is aired
   too_few_items : IsDeck (replanned (record { cycle = 2; disks = spec 1 2 ∷ spec 1 1 ∷ [] } ∷ [])) → ⊥
   not_aired : IsDeck (replanned (record { cycle = 2; disks = spec 1 2 ∷ spec 2 0 ∷ [] } ∷ [])) → ⊥
   -- neither 0 nor 3 is a version; 256 items are the most of version 1, and 1,024 of version 2
@@ -213,7 +214,7 @@ buckets = record {
   no_such_edition = refl;
 }
 
--- In cycle 2 item 0 stands on the first disk of edition 1, and is aired twice.
+-- In cycle 2 item 0 is on the first disk of edition 1, and is aired twice.
 aired_twice : IsAiredItem asks_both 2 0 (of_item 0 1 2 0 ∷ of_item 1 1 2 1 ∷ of_item 0 1 2 2 ∷ of_item 2 1 2 3 ∷ [])
 unfolding cut order order_with
 aired_twice = record { number = 0; disk = record { items = 0 ∷ []; freq = 2 }; there = refl; on = (0, omega arith, refl); times = refl }
@@ -221,10 +222,10 @@ aired_twice = record { number = 0; disk = record { items = 0 ∷ []; freq = 2 };
 -- ---- sessions
 
 -- The session by the entries over buckets.
-abbrev heard_by : Deck → List Bucket → List Line × Counts
+abbrev heard_by : Deck → List Bucket → List SessionLine × Counts
 heard_by d heard = over (by_entries (scheme_of FMatrix)) d (map Some heard)
 
--- One bucket alone: the counts.
+-- The counts of one bucket.
 abbrev counts_of_one : Bucket → Counts
 counts_of_one b = (heard_by asks_both (b ∷ [])).1
 
@@ -239,12 +240,12 @@ pub record Sessions : Type 0 where
     line 0 1 Accept (read 0 1 10 ∷ []) ∷ line 1 1 Accept (read 2 1 30 ∷ read 1 2 20 ∷ []) ∷ line 2 1 Accept (read 1 2 20 ∷ []) ∷ [],
     counts_with 3 4 1,
   )
-  -- copies are worth what the newest heard cycle says, and not what the bucket's own says
+  -- copies are worth what the newest heard cycle says, and not what the bucket's own cycle says
   worth_by_newest : heard_by (turning (1, 9, 1) ((0 ∷ []) ∷ (1 ∷ []) ∷ (0 ∷ []) ∷ [])) (of_item 0 0 1 0 ∷ of_item 2 1 2 3 ∷ of_item 1 0 1 1 ∷ [])
       ≡ (line 0 1 Accept (read 0 1 10 ∷ []) ∷ line 1 1 Accept (read 1 1 20 ∷ []) ∷ line 2 1 Unfinished [] ∷ [], counts_with 2 1 0)
   worth_before : heard_by (turning (1, 9, 1) ((0 ∷ []) ∷ (1 ∷ []) ∷ (0 ∷ []) ∷ [])) (of_item 0 0 1 0 ∷ of_item 1 0 1 1 ∷ [])
       ≡ (line 0 1 Accept (read 0 1 10 ∷ []) ∷ line 1 1 Accept (read 1 1 20 ∷ []) ∷ line 2 1 Accept (read 0 1 10 ∷ []) ∷ [], counts_with 2 0 1)
-  -- what is wanted is opened in either edition; a bucket of another cycle's edition is foreign
+  -- a wanted bucket is opened in either edition; a bucket with another edition than its cycle's is foreign
   opened_first : counts_of_one (of_item 2 0 1 2) ≡ counts_with 1 0 0
   opened_second : counts_of_one (of_item 2 1 2 3) ≡ counts_with 1 0 0
   dozed : counts_of_one (of_item 0 1 2 2) ≡ counts_with 0 1 0

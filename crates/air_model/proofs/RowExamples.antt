@@ -42,7 +42,7 @@ pub record Rows : Type 0 where
   of_program : program_row disks ≡ codes "program" ∷ codes "4" ∷ codes "2" ∷ codes "2" ∷ []
   of_disk : disk_row 2 (1, record { items = 1 ∷ 2 ∷ []; freq = 1 }) ≡ codes "disk" ∷ codes "1" ∷ codes "1" ∷ codes "2" ∷ codes "1" ∷ []
   of_minor : minor_row disks 1 ≡ codes "minor" ∷ codes "1" ∷ codes "0 2" ∷ []
-  -- Item 2 of rate 5 is on disk 1, is aired once, each four slots, three slots on, and its PIX number is 10.
+  -- Item 2 of rate 5 is on disk 1, is aired once, every four slots, first three slots on, and its PIX number is 10.
   of_item : item_row disks (2, 5) ≡ codes "item" ∷ codes "2" ∷ codes "1" ∷ codes "1" ∷ codes "4" ∷ codes "3" ∷ codes "10" ∷ []
   of_place : place_text 5 4 ≡ codes "5@4"
   of_read : read_text (record { item = 6; cycle = 2; value = 10 }) ≡ codes "6@2=10"

@@ -1,4 +1,5 @@
--- The rows of a legal history tell it: a row has the numbers of an updater and of its update, and the deck has one update there.
+-- The rows of a legal history determine it: a row has the numbers of an updater and of its update, and the deck has one update
+-- there.
 use Rattle.std.proofs.Common.{◌≡◌, ℕ, ◌<◌, ◌^◌, Some, List, [], ◌∷◌, length, map, get_or, All, refl, sym, ◌∙◌, ap, subst, inl, inr, arith}
 use Rattle.std.specs.Prelude.{codes}
 use Rattle.std.specs.List.{slice_get}

@@ -1,4 +1,4 @@
--- A run of two updaters and two cycles: what its passes tell, what monitors may see of it, and its batches.
+-- A run of two updaters and two cycles: what its passes saw, what monitors may see of it, and its batches.
 use Rattle.std.proofs.Common.{◌≡◌, ℕ, zero, suc, ◌+◌, ◌<◌, Some, List, [], ◌∷◌, ◌++◌, length, All, refl, sym, ap, subst, inl, inr, arith, length-append}
 use Rattle.std.specs.Prelude.{count_by, slice_get}
 use Rattle.std.proofs.lemmas.List.Elements.{All-from_recursion, All-nil}
@@ -19,7 +19,7 @@ use Rattle.air_model.specs.RunClosings.{HaveMadeAll, HaveMadeSome, IsClosing}
 use Rattle.air_model.specs.MonitorSights.{AreGlances, AreLooks, EndsAtStart, IsSeen}
 use Rattle.air_model.specs.Buckets.{capped_body, capped_entries}
 
--- Updater 0 puts 11 into item 0, updater 1 puts 21 into item 1; there are two cycles and a monitor.
+-- Updater 0 writes 11 to item 0, updater 1 writes 21 to item 1; there are two cycles and a monitor.
 abbrev pub two : Deck
 two = record pair {
   updates = (update [] (set_to 0 11 ∷ []) ∷ []) ∷ (update [] (set_to 1 21 ∷ []) ∷ []) ∷ [];
@@ -64,7 +64,7 @@ closing = record {
   fits = All-from_recursion (EventFits 2 2) history ((omega arith, fits 0 (omega arith) 11), (tt, ((omega arith, fits 1 (omega arith) 21), (tt, tt))));
 }
 
--- It wasn't for a conductor's pass that saw one start.
+-- With a conductor's pass that saw one start it wasn't.
 pub not_closing : IsClosing two passes (first ∷ Start ∷ []) history → ⊥
 unfolding is_start
 not_closing h = let (others, is, none) = h.started in let same : others ≡ second ∷ Start ∷ [] = cc in let count = ap (count_by is_start) same in omega (arith, none, count)
@@ -76,7 +76,7 @@ made zero seen e = let same : (first ∷ []) ≡ seen = cc in ap (made_by 0) (sy
 made (suc zero) seen e = let same : (first ∷ Start ∷ second ∷ []) ≡ seen = cc in ap (made_by 1) (sym same)
 made (suc (suc by)) seen e = cc
 
--- A pass that saw nothing made the first none of its updates.
+-- A pass that saw nothing made none of its updates, which is a beginning of them.
 pub made_some : HaveMadeSome two ([] ∷ (second ∷ []) ∷ [])
 unfolding made_by is_by commits_from
 made_some zero seen e = let same : [] ≡ seen = cc in (0, ap (made_by 0) (sym same))
@@ -124,12 +124,12 @@ each_ends : All EndsWithStart ((first ∷ Start ∷ []) ∷ (second ∷ Start �
 unfolding is_start starts
 each_ends = All-from_recursion EndsWithStart ((first ∷ Start ∷ []) ∷ (second ∷ Start ∷ []) ∷ []) (record { commits = first ∷ []; ends = refl; one = refl }, (record { commits = second ∷ []; ends = refl; one = refl }, tt))
 
--- One batch a cycle, each with the commit before its start.
+-- One batch for each cycle, with the commit before its start.
 pub by_batches : AirsByBatches two history ((first ∷ Start ∷ []) ∷ (second ∷ Start ∷ []) ∷ [])
 unfolding is_start starts buckets_of bucket_of capped_entries capped_body body_of front
 by_batches = record { count = refl; each = each_ends; rest = []; history = refl; quiet = refl; aired = refl }
 
--- Not by both cycles at once, nor by the first alone, nor by batches that begin with a start.
+-- Both cycles in one batch, the first batch only, or batches that begin with a start don't air it.
 pub not_by_batches : (AirsByBatches two history (history ∷ []) → ⊥) × (AirsByBatches two history ((first ∷ Start ∷ []) ∷ []) → ⊥)
     × (AirsByBatches two history ((first ∷ []) ∷ (Start ∷ second ∷ Start ∷ []) ∷ []) → ⊥)
 unfolding is_start starts

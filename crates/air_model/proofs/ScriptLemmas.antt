@@ -1,4 +1,4 @@
--- The script's history is legal: a part's event is its updater's next.
+-- The script's history is legal: the event of each part is its updater's next.
 use Rattle.std.proofs.Common.{◌≡◌, ℕ, zero, suc, ◌+◌, ◌<◌, ◌≤◌, Bool, true, false, cond, Option, Some, None, List, [], length, take, get_or, ◌==◌, refl, sym, ◌∙◌, ap, subst, arith}
 use Rattle.std.proofs.lemmas.Bool.{eq-eqb}
 use Rattle.std.proofs.lemmas.Option.{get_or_from_slice_get, slice_get-get_or, slice_get_within}
@@ -7,14 +7,14 @@ use Rattle.std.proofs.lemmas.List.FromFn.{get_or-map-range_with_len, length-map-
 use Rattle.air_history.specs.declared.histories.Event.{Event}
 use Rattle.air_history.specs.declared.histories.Event.TheVariants.{Commit, Start}
 use Rattle.air_history.specs.UpdateLists.{UpdateLists}
-use Rattle.air_model.specs.Decks.{Deck, count_made, count_parts, event_of, is_by, script_history, update_at, updates_by, ScriptFits, IsLegal}
+use Rattle.air_model.specs.Decks.{Deck, count_made, scripted_commits, event_of, is_by, script_history, update_at, updates_by, ScriptFits, IsLegal}
 use Rattle.std.specs.Option.{option_map_or}
 
 -- The part is the updater's.
-abbrev is_part_of : ℕ → Option ℕ → Bool
-is_part_of by part = option_map_or (λ who. who == by) part false
+abbrev is_commit_by : ℕ → Option ℕ → Bool
+is_commit_by by part = option_map_or (λ who. who == by) part false
 
-part_same : (deck : Deck) (before : List (Option ℕ)) (by : ℕ) (part : Option ℕ) → is_by by (event_of deck before part) ≡ is_part_of by part
+part_same : (deck : Deck) (before : List (Option ℕ)) (by : ℕ) (part : Option ℕ) → is_by by (event_of deck before part) ≡ is_commit_by by part
 unfolding is_by event_of
 part_same deck before by None = refl
 part_same deck before by (Some who) = refl
@@ -32,14 +32,14 @@ unfolding script_history
 script_length deck = length-map-range_with_len (event_in deck) 0 (length deck.script)
 
 -- An updater made as many commits as it has parts.
-counts_same : (deck : Deck) (by p : ℕ) → p ≤ length deck.script → count_made by (take p (script_history deck)) ≡ count_parts by (take p deck.script)
+counts_same : (deck : Deck) (by p : ℕ) → p ≤ length deck.script → count_made by (take p (script_history deck)) ≡ scripted_commits by (take p deck.script)
 counts_same deck by zero l = refl
-counts_same deck by (suc p) l = step (is_part_of by (get_or deck.script p None)) refl (counts_same deck by p (omega arith))
+counts_same deck by (suc p) l = step (is_commit_by by (get_or deck.script p None)) refl (counts_same deck by p (omega arith))
   where
     H : List Event
     H = script_history deck
 
-    there : is_by by (get_or H p Start) ≡ is_part_of by (get_or deck.script p None)
+    there : is_by by (get_or H p Start) ≡ is_commit_by by (get_or deck.script p None)
     there = ap (is_by by) (event_there deck p Start (omega arith)) ∙ part_same deck (take p deck.script) by (get_or deck.script p None)
 
     within : p < length H
@@ -48,17 +48,17 @@ counts_same deck by (suc p) l = step (is_part_of by (get_or deck.script p None))
     more : p + 1 ≡ suc p
     more = omega arith
 
-    step : (b : Bool) → is_part_of by (get_or deck.script p None) ≡ b → count_made by (take p H) ≡ count_parts by (take p deck.script) →
-        count_made by (take (suc p) H) ≡ count_parts by (take (suc p) deck.script)
-    step true t rest = subst (λ n. count_made by (take n H) ≡ count_parts by (take n deck.script)) more
-        (count_by_more_yes (is_by by) H p Start within (there ∙ t) ∙ ap (λ n. n + 1) rest ∙ sym (count_by_more_yes (is_part_of by) deck.script p None (omega arith) t))
-    step false f rest = subst (λ n. count_made by (take n H) ≡ count_parts by (take n deck.script)) more
-        (count_by_more_no (is_by by) H p Start within (there ∙ f) ∙ rest ∙ sym (count_by_more_no (is_part_of by) deck.script p None (omega arith) f))
+    step : (b : Bool) → is_commit_by by (get_or deck.script p None) ≡ b → count_made by (take p H) ≡ scripted_commits by (take p deck.script) →
+        count_made by (take (suc p) H) ≡ scripted_commits by (take (suc p) deck.script)
+    step true t rest = subst (λ n. count_made by (take n H) ≡ scripted_commits by (take n deck.script)) more
+        (count_by_more_yes (is_by by) H p Start within (there ∙ t) ∙ ap (λ n. n + 1) rest ∙ sym (count_by_more_yes (is_commit_by by) deck.script p None (omega arith) t))
+    step false f rest = subst (λ n. count_made by (take n H) ≡ scripted_commits by (take n deck.script)) more
+        (count_by_more_no (is_by by) H p Start within (there ∙ f) ∙ rest ∙ sym (count_by_more_no (is_commit_by by) deck.script p None (omega arith) f))
 
 -- A part whose event is a commit is its updater's.
 pub record IsCommitOf (deck : Deck) (before : List (Option ℕ)) (part : Option ℕ) (by seq : ℕ) (u : UpdateLists) : Type 0 where
   pub commits : part ≡ Some by
-  pub number : seq ≡ count_parts by before
+  pub number : seq ≡ scripted_commits by before
   pub update : u ≡ update_at deck by seq
 
 commit_is : (deck : Deck) (before : List (Option ℕ)) (part : Option ℕ) (by seq : ℕ) (u : UpdateLists) → event_of deck before part ≡ Commit by seq u → IsCommitOf deck before part by seq u
@@ -66,11 +66,11 @@ unfolding event_of
 commit_is deck before None by seq u e = cc
 commit_is deck before (Some who) by seq u e =
     let same : who ≡ by = cc in
-    let number : count_parts who before ≡ seq = cc in
-    let update : update_at deck who (count_parts who before) ≡ u = cc in
+    let number : scripted_commits who before ≡ seq = cc in
+    let update : update_at deck who (scripted_commits who before) ≡ u = cc in
     record {
       commits = ap Some same;
-      number = sym number ∙ ap (λ w. count_parts w before) same;
+      number = sym number ∙ ap (λ w. scripted_commits w before) same;
       update = sym update ∙ ap (update_at deck who) number ∙ ap (λ w. update_at deck w seq) same;
     }
 
@@ -79,10 +79,10 @@ script deck fits p by seq u e =
     let within : p < length deck.script = omega (arith, slice_get_within (script_history deck) p (Commit by seq u) e, script_length deck) in
     let at : get_or (script_history deck) p Start ≡ Commit by seq u = get_or_from_slice_get (script_history deck) p (Commit by seq u) Start e in
     let is = commit_is deck (take p deck.script) (get_or deck.script p None) by seq u (sym (event_there deck p Start within) ∙ at) in
-    let here : is_part_of by (get_or deck.script p None) ≡ true = ap (is_part_of by) is.commits ∙ eq-eqb by by refl in
-    let number : seq ≡ count_parts by (take p deck.script) = is.number in
-    let more : count_parts by (take (p + 1) deck.script) ≡ count_parts by (take p deck.script) + 1 = count_by_more_yes (is_part_of by) deck.script p None within here in
-    let all : count_parts by (take (p + 1) deck.script) ≤ count_parts by deck.script = sum_by-take-le (λ part. cond (is_part_of by part) 1 0) deck.script (p + 1) in
+    let here : is_commit_by by (get_or deck.script p None) ≡ true = ap (is_commit_by by) is.commits ∙ eq-eqb by by refl in
+    let number : seq ≡ scripted_commits by (take p deck.script) = is.number in
+    let more : scripted_commits by (take (p + 1) deck.script) ≡ scripted_commits by (take p deck.script) + 1 = count_by_more_yes (is_commit_by by) deck.script p None within here in
+    let all : scripted_commits by (take (p + 1) deck.script) ≤ scripted_commits by deck.script = sum_by-take-le (λ part. cond (is_commit_by by part) 1 0) deck.script (p + 1) in
     let given : seq < length (updates_by deck by) = omega (arith, number, more, all, fits by) in
     record {
       number = number ∙ sym (counts_same deck by p (omega arith));

@@ -25,7 +25,7 @@ use Rattle.air_model.specs.Airings.{disk_number, chunks_of, pix_number}
 use Rattle.air_model.specs.Decks.{Deck, Item, event_of, script_history, values_in}
 use Rattle.air_model.specs.Aired.{scheme_in, air_of, body_of, bucket_of, buckets_of, body_fits, fits}
 use Rattle.air_model.specs.Judges.{Judge, by_history, by_entries}
-use Rattle.air_model.specs.Sessions.{Line, State, reader_of, session, query_of, wanted, line_of, with_line, count_copied, count_opened, count_dozed, count_late, count_refused, count_foreign, next_query, next_attempt, accept_if_whole, hold, abort, is_unusable, drop_copy, copy_of, turn_with, turn, settle, decide, offer, open_bucket, hear_read, hear, hear_all, end_query, end, end_aged, judge_read}
+use Rattle.air_model.specs.Sessions.{SessionLine, State, reader_of, session, query_of, wanted, line_of, with_line, count_copied, count_opened, count_dozed, count_late, count_refused, count_foreign, next_query, next_attempt, accept_if_whole, hold, abort, is_unusable, drop_copy, copy_of, turn_with, turn, settle, decide, offer, open_bucket, hear_read, hear, hear_all, end_query, end, end_aged, judge_read}
 
 -- ---- decks of one disk, one updater and one reader
 
@@ -41,7 +41,7 @@ update reads writes = record { reads = reads; writes = writes }
 abbrev pub set_to : ℕ → ℕ → Write
 set_to i v = record { item = i; base = None; minus = false; amount = v }
 
--- A write of a base's value and an amount.
+-- A write of a base's value plus an amount.
 abbrev pub add_to : ℕ → ℕ → ℕ → Write
 add_to i b v = record { item = i; base = Some b; minus = false; amount = v }
 
@@ -82,12 +82,12 @@ pair = deck (item 10 1 ∷ item 20 1 ∷ []) [] (0, 0, 1) ((0 ∷ 1 ∷ []) ∷ 
 abbrev pub swapped_deck : List (Option ℕ) → Deck
 swapped_deck script = deck (item 10 1 ∷ item 20 2 ∷ []) (update [] (set_to 0 11 ∷ []) ∷ update [] (set_to 1 21 ∷ []) ∷ []) (0, 0, 1) ((0 ∷ 1 ∷ []) ∷ []) script
 
--- Item 0 becomes 11, item 2 that and 1, item 1 that and 1.
+-- Item 0 becomes 11, item 2 becomes item 0 plus 1, and item 1 becomes item 2 plus 1.
 abbrev pub chained_deck : ℕ → List (Option ℕ) → Deck
 chained_deck tries script = deck (item 10 2 ∷ item 20 3 ∷ item 30 1 ∷ [])
     (update [] (set_to 0 11 ∷ []) ∷ update (0 ∷ []) (add_to 2 0 1 ∷ []) ∷ update (2 ∷ []) (add_to 1 2 1 ∷ []) ∷ []) (0, 0, tries) ((0 ∷ 1 ∷ []) ∷ []) script
 
--- Item 0 becomes 11, item 1 that and 5; the reader keeps copies.
+-- Item 0 becomes 11, item 1 becomes item 0 plus 5; the reader keeps copies.
 abbrev pub copying_deck : List (Option ℕ) → Deck
 copying_deck script = deck (item 10 1 ∷ item 20 2 ∷ []) (update [] (set_to 0 11 ∷ []) ∷ update (0 ∷ []) (add_to 1 0 5 ∷ []) ∷ []) (2, 9, 1) ((0 ∷ []) ∷ (1 ∷ 0 ∷ []) ∷ []) script
 
@@ -95,9 +95,9 @@ copying_deck script = deck (item 10 1 ∷ item 20 2 ∷ []) (update [] (set_to 0
 abbrev crowded_deck : Deck
 crowded_deck = deck (item 10 1 ∷ item 20 1 ∷ item 30 1 ∷ []) [] (1, 9, 1) ((2 ∷ []) ∷ (1 ∷ []) ∷ (0 ∷ []) ∷ (0 ∷ 1 ∷ []) ∷ (0 ∷ []) ∷ []) (s ∷ s ∷ s ∷ [])
 
--- ---- what is heard, and what comes of it
+-- ---- what is heard, and the session that it gives
 
--- The script's buckets as they stand.
+-- The script's buckets, unchanged.
 abbrev pub all_of : Deck → List (Option Bucket)
 all_of d = map Some (buckets_of (values_in d) (air_of d) (script_history d))
 
@@ -106,11 +106,11 @@ abbrev pub bucket : ℕ → ℕ → Body → Option Bucket
 bucket c slot body = Some (record { version = 1; edition = 0; cycle = c; slot = slot; body = body })
 
 -- The lines and the counts of the deck's reader.
-abbrev pub over : Judge → Deck → List (Option Bucket) → List Line × Counts
+abbrev pub over : Judge → Deck → List (Option Bucket) → List SessionLine × Counts
 over judge d heard = let t : State = session judge (air_of d) (reader_of d 0) heard in (t.lines, t.counts)
 
 -- The session is this one, by the history and by the entries.
-abbrev pub by_both : Deck → List (Option Bucket) → List Line × Counts → Type 0
+abbrev pub by_both : Deck → List (Option Bucket) → List SessionLine × Counts → Type 0
 by_both d heard result =
     (over (by_history (scheme_in d) (values_in d) (script_history d)) d heard ≡ result) × (over (by_entries (scheme_in d)) d heard ≡ result)
 
@@ -119,21 +119,21 @@ abbrev pub read : ℕ → ℕ → ℕ → ReadOf
 read i c v = record { item = i; cycle = c; value = v }
 
 -- The line of an attempt of a query.
-abbrev pub line : ℕ → ℕ → VerdictKind → List ReadOf → Line
+abbrev pub line : ℕ → ℕ → VerdictKind → List ReadOf → SessionLine
 line q a kind reads = record { verdict = record { query = q; attempt = a; kind = kind }; reads = reads }
 
 -- The counts with these opened, dozed and copied.
 abbrev pub counts_with : ℕ → ℕ → ℕ → Counts
 counts_with opened dozed copied = record { opened = opened; dozed = dozed; late = 0; refused = 0; foreign = 0; copied = copied }
 
--- What the sessions come to.
+-- What the sessions give.
 pub record Sessions : Type 0 where
   accepts : by_both pair (all_of pair) (line 0 1 Accept (read 0 1 10 ∷ read 1 1 20 ∷ []) ∷ [], counts_with 2 0 0)
   -- F-Matrix accepts reads of two cycles that no single cycle has; the other policies abort.
   f_matrix_accepts : let d = swapped_deck (s ∷ u ∷ u ∷ s ∷ []) in by_both d (all_of d) (line 0 1 Accept (read 0 1 10 ∷ read 1 2 21 ∷ []) ∷ [], counts_with 2 2 0)
   datacycle_aborts : let d = judged_by Datacycle (swapped_deck (s ∷ u ∷ u ∷ s ∷ [])) in by_both d (all_of d) (line 0 1 (Abort 1 2 0) (read 0 1 10 ∷ []) ∷ [], counts_with 2 2 0)
   r_matrix_aborts : let d = judged_by RMatrix (swapped_deck (s ∷ u ∷ u ∷ s ∷ [])) in by_both d (all_of d) (line 0 1 (Abort 1 2 0) (read 0 1 10 ∷ []) ∷ [], counts_with 2 2 0)
-  -- Without the second commit R-Matrix accepts by the first cycle; Datacycle aborts still.
+  -- Without the second commit R-Matrix accepts by the first cycle; Datacycle still aborts.
   r_matrix_accepts : let d = judged_by RMatrix (swapped_deck (s ∷ u ∷ s ∷ [])) in by_both d (all_of d) (line 0 1 Accept (read 0 1 10 ∷ read 1 2 20 ∷ []) ∷ [], counts_with 2 2 0)
   datacycle_aborts_on_stale_read : let d = judged_by Datacycle (swapped_deck (s ∷ u ∷ s ∷ [])) in by_both d (all_of d) (line 0 1 (Abort 1 2 0) (read 0 1 10 ∷ []) ∷ [], counts_with 2 2 0)
   -- Item 1 descends from the write of item 0 through item 2.
@@ -143,7 +143,7 @@ pub record Sessions : Type 0 where
   -- With a second try the query is accepted a cycle later.
   tries_again : let d = chained_deck 2 (s ∷ u ∷ u ∷ u ∷ s ∷ s ∷ []) in
       by_both d (all_of d) (line 0 1 (Abort 1 2 0) (read 0 1 10 ∷ []) ∷ line 0 2 Accept (read 0 2 11 ∷ read 1 3 13 ∷ []) ∷ [], counts_with 4 5 0)
-  -- The kept copy of item 0 clashes with the new item 1; it is dropped, and the air gives item 0 anew.
+  -- The kept copy of item 0 clashes with the new item 1; it is dropped, and item 0 is read anew from the air.
   copy_dropped : let d = copying_deck (s ∷ u ∷ u ∷ s ∷ []) in
       by_both d (all_of d) (line 0 1 Accept (read 0 1 10 ∷ []) ∷ line 1 1 Accept (read 1 2 16 ∷ read 0 2 11 ∷ []) ∷ [], counts_with 3 1 0)
   -- Without the commits the copy is used.
@@ -154,13 +154,13 @@ pub record Sessions : Type 0 where
         ∷ line 4 1 Accept (read 0 3 10 ∷ []) ∷ [],
     counts_with 4 5 2,
   )
-  -- Where all is lost, and where each bucket comes twice.
+  -- If all buckets are lost, and if each is heard twice.
   nothing_heard : by_both pair [] (line 0 1 Unfinished [] ∷ [], counts_with 0 0 0)
   heard_twice : by_both pair (flat_map (λ b. b ∷ b ∷ []) (all_of pair)) (line 0 1 Accept (read 0 1 10 ∷ read 1 1 20 ∷ []) ∷ [], counts_with 2 2 0)
-  -- Bytes that are no bucket, and a bucket with too many entries, change their counts alone.
+  -- Bytes that are no bucket, and a bucket with too many entries, change only their counts.
   refused_and_foreign : by_both pair (None ∷ None ∷ bucket 1 0 (Column 0 10 (0 ∷ 0 ∷ 0 ∷ [])) ∷ all_of pair)
       (line 0 1 Accept (read 0 1 10 ∷ read 1 1 20 ∷ []) ∷ [], record { opened = 2; dozed = 0; late = 0; refused = 2; foreign = 1; copied = 0 })
-  -- Cycles may fall: under F-Matrix it is the entries that clash, and under R-Matrix the older read is late.
+  -- Cycles may fall: under F-Matrix the entries clash, and under R-Matrix the older read is late.
   cycles_fall : over (by_entries (scheme_of FMatrix)) pair (bucket 4 0 (Column 0 10 (0 ∷ 0 ∷ [])) ∷ bucket 2 1 (Column 1 20 (0 ∷ 0 ∷ [])) ∷ [])
       ≡ (line 0 1 Accept (read 0 4 10 ∷ read 1 2 20 ∷ []) ∷ [], counts_with 2 0 0)
   held_column_clashes : over (by_entries (scheme_of FMatrix)) pair (bucket 4 0 (Column 0 10 (3 ∷ 3 ∷ [])) ∷ bucket 2 1 (Column 1 20 (0 ∷ 0 ∷ [])) ∷ [])
@@ -170,7 +170,7 @@ pub record Sessions : Type 0 where
   comes_late : over (by_entries (scheme_of RMatrix)) (judged_by RMatrix pair) (bucket 4 0 (Vector 0 10 (0 ∷ 0 ∷ [])) ∷ bucket 2 1 (Vector 1 20 (0 ∷ 0 ∷ [])) ∷ [])
       ≡ (line 0 1 Unfinished (read 0 4 10 ∷ []) ∷ [], record { opened = 1; dozed = 0; late = 1; refused = 0; foreign = 0; copied = 0 })
 
--- And they do.
+-- The sessions give this.
 pub sessions : Sessions
 unfolding last_place greatest cycle_at front starts writer writer_before writes reads is_start descends descends_in column_entry vector_entry value_on_base write_of value_after table origin stale descends_from runs_alone last_alone consistent least is_late clash_by_history clash_by_entries keep without_item with_copy order order_with cut program least_common_multiple num_minors num_chunks chunk_len chunk minor_cycle disk_number chunks_of pix_number event_of script_history body_of bucket_of capped_entries capped_body buckets_of body_fits fits by_history by_entries session query_of wanted line_of with_line count_copied count_opened count_dozed count_late count_refused count_foreign next_query next_attempt accept_if_whole hold abort is_unusable drop_copy copy_of turn_with turn settle decide offer open_bucket end_aged judge_read hear_read hear hear_all end_query end
 sessions = record {

@@ -60,12 +60,12 @@ counts opened dozed late refused foreign copied = record { opened = opened; doze
 -- ---- kept copies
 
 pub record KeptCopies : Type 0 where
-  -- a copy that is one cycle old is used where the age is 1
+  -- a copy that is one cycle old is used if the age is 1
   of_its_age : let d = two_items 2 1 (1, 1, 1) ((0 ∷ []) ∷ (1 ∷ []) ∷ (1 ∷ []) ∷ (0 ∷ []) ∷ []) (s ∷ s ∷ s ∷ s ∷ []) in by_both d (all_of d) (
     line 0 1 Accept (read 0 1 10 ∷ []) ∷ line 1 1 Accept (read 1 1 20 ∷ []) ∷ line 2 1 Accept (read 1 2 20 ∷ []) ∷ line 3 1 Accept (read 0 1 10 ∷ []) ∷ [],
     counts_with 3 5 1,
   )
-  -- and is too old where the age is 0
+  -- it is too old if the age is 0
   too_old : let d = deck (item 10 1 ∷ item 20 1 ∷ item 30 1 ∷ []) [] (1, 0, 1) ((0 ∷ []) ∷ (2 ∷ []) ∷ (2 ∷ []) ∷ (0 ∷ []) ∷ []) (s ∷ s ∷ s ∷ s ∷ []) in by_both d (all_of d) (
     line 0 1 Accept (read 0 1 10 ∷ []) ∷ line 1 1 Accept (read 2 1 30 ∷ []) ∷ line 2 1 Accept (read 2 2 30 ∷ []) ∷ line 3 1 Accept (read 0 3 10 ∷ []) ∷ [],
     counts_with 4 8 0,
@@ -75,17 +75,17 @@ pub record KeptCopies : Type 0 where
     line 0 1 Accept (read 0 1 10 ∷ read 1 1 20 ∷ []) ∷ line 1 1 Accept (read 1 1 20 ∷ []) ∷ line 2 1 Accept (read 0 1 10 ∷ []) ∷ line 3 1 Accept (read 1 1 20 ∷ read 0 1 10 ∷ []) ∷ [],
     counts_with 2 0 4,
   )
-  -- copies compete by the PIX numbers of their items, and not by the place of these in the order
+  -- copies compete by the PIX numbers of their items, and not by the places of the items in the order
   by_item : let d = deck (item 10 1 ∷ item 20 5 ∷ item 30 3 ∷ []) [] (1, 9, 1) ((1 ∷ []) ∷ (2 ∷ []) ∷ (0 ∷ []) ∷ (1 ∷ []) ∷ []) (s ∷ s ∷ []) in by_both d (all_of d) (
     line 0 1 Accept (read 1 1 20 ∷ []) ∷ line 1 1 Accept (read 2 1 30 ∷ []) ∷ line 2 1 Accept (read 0 1 10 ∷ []) ∷ line 3 1 Accept (read 1 1 20 ∷ []) ∷ [],
     counts_with 3 3 1,
   )
-  -- an item's PIX number isn't its rate: item 1 is of lesser rate and is aired half as often, so its copy stays
+  -- an item's PIX number isn't its rate: item 1 has the lesser rate and is aired half as often, so its copy stays
   by_airing : let d = on_two_disks 3 2 (1, 9, 1) ((0 ∷ []) ∷ (1 ∷ []) ∷ (0 ∷ []) ∷ (1 ∷ []) ∷ []) (s ∷ []) in by_both d (all_of d) (
     line 0 1 Accept (read 0 1 10 ∷ []) ∷ line 1 1 Accept (read 1 1 20 ∷ []) ∷ line 2 1 Accept (read 0 1 10 ∷ []) ∷ line 3 1 Accept (read 1 1 20 ∷ []) ∷ [],
     counts_with 3 1 1,
   )
-  -- a late read isn't offered to the copies: with room for two that of item 2 stays, and is used in the last query
+  -- a late read isn't offered to the copies: with room for two, the copy of item 2 stays and is used in the last query
   late_not_kept : over (by_entries (scheme_of RMatrix)) (three_items ((2 ∷ []) ∷ (0 ∷ 1 ∷ []) ∷ (2 ∷ []) ∷ [])) (
       heard_of_three 2 4 (0 ∷ 0 ∷ 0 ∷ []) ∷ heard_of_three 0 4 (0 ∷ 0 ∷ 0 ∷ []) ∷ heard_of_three 1 2 (0 ∷ 0 ∷ 0 ∷ []) ∷ heard_of_three 1 5 (4 ∷ 4 ∷ 0 ∷ []) ∷ [])
       ≡ (line 0 1 Accept (read 2 4 30 ∷ []) ∷ line 1 1 (Abort 1 5 0) (read 0 4 10 ∷ []) ∷ line 2 1 Accept (read 2 4 30 ∷ []) ∷ [], counts 3 0 1 0 0 1)
@@ -105,7 +105,7 @@ pub record Aborts : Type 0 where
     line 0 1 (Abort 1 2 0) (read 0 1 10 ∷ []) ∷ line 0 2 Accept (read 0 2 11 ∷ read 1 3 13 ∷ []) ∷ line 1 1 Accept (read 0 3 11 ∷ []) ∷ [],
     counts_with 5 7 0,
   )
-  -- the refused read is offered to the copies too: it is read again in the next attempt and in the next query, from its copy
+  -- the refused read is offered to the copies too: in the next attempt and in the next query it is read from its copy
   refused_read_kept : let d = chained_for (3, 9, 2) ((0 ∷ 1 ∷ []) ∷ (1 ∷ []) ∷ []) (s ∷ u ∷ u ∷ u ∷ s ∷ s ∷ []) in by_both d (all_of d) (
     line 0 1 (Abort 1 2 0) (read 0 1 10 ∷ []) ∷ line 0 2 Accept (read 0 2 11 ∷ read 1 2 13 ∷ []) ∷ line 1 1 Accept (read 1 2 13 ∷ []) ∷ [],
     counts_with 3 6 2,
@@ -115,12 +115,12 @@ pub record Aborts : Type 0 where
     line 0 1 (Abort 1 2 0) (read 0 1 10 ∷ []) ∷ line 1 1 Accept (read 0 2 11 ∷ []) ∷ [],
     counts_with 3 6 0,
   )
-  -- and no other copy is: that of item 2 is used after the abort
+  -- no other copy is dropped: that of item 2 is used after the abort
   others_kept : let d = chained_for (3, 9, 1) ((2 ∷ []) ∷ (0 ∷ 1 ∷ []) ∷ (2 ∷ []) ∷ []) (s ∷ s ∷ u ∷ u ∷ u ∷ s ∷ []) in by_both d (all_of d) (
     line 0 1 Accept (read 2 1 30 ∷ []) ∷ line 1 1 (Abort 1 3 0) (read 0 2 10 ∷ []) ∷ line 2 1 Accept (read 2 1 30 ∷ []) ∷ [],
     counts_with 3 6 1,
   )
-  -- the drop comes before the offer: with room for one copy that of item 0 makes room for item 1
+  -- the drop comes before the offer: with room for one copy, dropping that of item 0 makes room for item 1
   dropped_then_offered : over (by_entries (scheme_of FMatrix)) (two_items 2 1 (1, 9, 1) ((0 ∷ 1 ∷ []) ∷ (1 ∷ []) ∷ []) []) (heard_column 0 1 (0 ∷ 0 ∷ []) ∷ heard_column 1 2 (1 ∷ 0 ∷ []) ∷ [])
       ≡ (line 0 1 (Abort 1 2 0) (read 0 1 10 ∷ []) ∷ line 1 1 Accept (read 1 2 20 ∷ []) ∷ [], counts_with 2 0 1)
 
@@ -145,7 +145,8 @@ pub record Heard : Type 0 where
     line 0 1 (Abort 1 2 0) (read 0 1 10 ∷ []) ∷ line 0 2 Unfinished (read 0 2 11 ∷ []) ∷ [],
     counts_with 3 3 0,
   )
-  -- a foreign bucket of cycle 9 doesn't age the copy of item 0; a dozed one of cycle 2 does, and an older one behind it makes it no younger
+  -- a foreign bucket of cycle 9 doesn't age the copy of item 0; a dozed one of cycle 2 does, and an older one after it makes it
+  -- no younger
   foreign_no_clock : over (by_entries (scheme_of FMatrix)) (two_items 1 1 (1, 0, 1) ((0 ∷ []) ∷ (1 ∷ []) ∷ (0 ∷ []) ∷ []) []) (heard_column 0 1 (0 ∷ 0 ∷ []) ∷ foreign ∷ heard_column 1 1 (0 ∷ 0 ∷ []) ∷ [])
       ≡ (line 0 1 Accept (read 0 1 10 ∷ []) ∷ line 1 1 Accept (read 1 1 20 ∷ []) ∷ line 2 1 Accept (read 0 1 10 ∷ []) ∷ [], counts 2 0 0 0 1 1)
   dozed_clock : over (by_entries (scheme_of FMatrix)) (two_items 1 1 (1, 0, 1) ((0 ∷ []) ∷ (1 ∷ []) ∷ (0 ∷ []) ∷ []) []) (heard_column 0 1 (0 ∷ 0 ∷ []) ∷ heard_column 0 2 (0 ∷ 0 ∷ []) ∷ heard_column 1 1 (0 ∷ 0 ∷ []) ∷ [])

@@ -1,4 +1,4 @@
--- Settling comes to an end: each turn drops a copy of the wanted item, or leaves one item less to read.
+-- Settling ends: each turn drops a copy of the wanted item, or leaves one item less to read.
 use Rattle.std.proofs.Common.{◌≡◌, ℕ, zero, suc, ◌+◌, ◌-◌, ◌<◌, ◌≤◌, Bool, true, false, cond, not, ◌==◌, Option, Some, None, List, [], ◌∷◌, ◌++◌, length, drop, get_or, refl, sym, ◌∙◌, ap, subst, inl, inr, arith}
 use Rattle.std.specs.Prelude.{sum_by}
 use Rattle.std.specs.List.{find, filter, slice_get}
@@ -55,7 +55,7 @@ find_without i (r ∷ R) = by (r.item == i) refl (find_without i R)
 found_item : (i : ℕ) (R : List Read) (x : Read) → find (λ r. r.item == i) R ≡ Some x → x.item ≡ i
 found_item i R x e = eqb-true x.item i (find_is (λ _. Unit {0}) (λ r. r.item == i) R (λ k d l. tt) (Some x) e).1
 
--- Where an item is wanted, fewer reads are held than the queries that are left have items.
+-- If an item is wanted, the held reads are fewer than the items of the queries that are left.
 wanted_within : (reader : Reader) (s : State) → is_some (wanted reader s) ≡ true → (s.query < length reader.queries) × (length s.held < length (get_or reader.queries s.query []))
 unfolding wanted query_of
 wanted_within reader s w =
@@ -79,8 +79,8 @@ copy_none : (s : State) → copy_of None s ≡ None
 unfolding copy_of
 copy_none s = refl
 
--- After settling the wanted item has no copy, and a turn more makes no difference: so to settle is to take turns as long
--- as the wanted item has a copy.
+-- After settling, the wanted item has no copy, and one more turn changes nothing. So settling is taking turns as long as the
+-- wanted item has a copy.
 pub record IsSettling (judge : Judge) (air : Air) (reader : Reader) (s : State) : Type 0 where
   pub settled : copy_of (wanted reader (settle judge air reader s)) (settle judge air reader s) ≡ None
   pub stays : copy_of (wanted reader s) s ≡ None → settle judge air reader s ≡ s
@@ -95,7 +95,7 @@ module _ (judge : Judge) (air : Air) (reader : Reader) where
   iterate_settled zero s e = refl
   iterate_settled (suc n) s e = ap (iterate (turn judge air reader) n) (turn_settled s e) ∙ iterate_settled n s e
 
-  -- a read that is held leaves one item less
+  -- a read that is held leaves one item less to read
   hold_left : (x : Read) (s : State) → is_some (wanted reader s) ≡ true → reads_left reader (hold judge air reader x s) + 1 ≡ reads_left reader s
   unfolding hold accept_if_whole next_query with_line wanted query_of
   hold_left x s w =

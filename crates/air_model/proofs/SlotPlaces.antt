@@ -1,5 +1,5 @@
--- Where an item stands in the program: its slots are those of one rest.
--- `minor_at` says it of a minor cycle, by induction on the disks; `comes_at` of the whole cycle.
+-- Where an item is in the program: its slots are those of one remainder. `minor_at` says it for a minor cycle, by induction on
+-- the disks; `comes_at` for the whole cycle.
 use Rattle.std.proofs.Common.{◌≡◌, ◌≤◌, ◌<◌, ◌↔◌, ◌⊎◌, inl, inr, ◌+◌, ◌-◌, ◌*◌, ◌/◌, ◌%◌, ◌++◌, ℕ, zero, suc, zero-add, Option, Some, None, List, [], ◌∷◌, length, get_or, take, slice_get, refl, sym, subst, ap, ◌∙◌, arith, length-append}
 use Rattle.std.specs.List.{flat_map, range_with_len}
 use Rattle.std.proofs.lemmas.Bool.{cases_lt}
@@ -95,7 +95,7 @@ item_of_disk (e ∷ ds) zero d q i a b = let same = same_Some e d a in (q, get_l
 item_of_disk (e ∷ ds) (suc n) d q i a b =
     let more = item_of_disk ds n d q i a b in (length e.items + more.0, get_right e.items (all_items ds) more.0 ∙ more.1)
 
--- An item stands on one disk alone.
+-- An item is on only one disk.
 pub same_disk : (disks : List Disk) (k n : ℕ) (e d : Disk) (p q i : ℕ) → Distinct (all_items disks)
     → slice_get disks k ≡ Some e → slice_get disks n ≡ Some d → slice_get e.items p ≡ Some i → slice_get d.items q ≡ Some i → k ≡ n
 unfolding all_items
@@ -168,7 +168,7 @@ minor_here m q i d ds k r apart item some = ((λ e. there e (cases_lt r len)), (
         let whole : c * len + r ≡ q = rw (chunk, rest) (div-add-mod' q len) in
         minor_first m d ds k r under ∙ ap (slice_get d.items) whole ∙ item
 
--- Item q of disk n stands in the minor cycles that air its chunk, at one place.
+-- Item q of disk n is in the minor cycles that air its chunk, at one place.
 pub minor_at : (m q i : ℕ) (disks : List Disk) (n : ℕ) (d : Disk) (k r : ℕ) → Distinct (all_items disks) → slice_get disks n ≡ Some d → slice_get d.items q ≡ Some i
     → 0 < num_chunks m d → (get_or (minor_cycle m disks k) r None ≡ Some i) ↔ At m disks n d q k r
 unfolding all_items
@@ -219,7 +219,7 @@ slot_is m disks s below =
     ∙ get_or_even (minor_cycle m disks) l 0 m (s / l) (s % l) None (length_minor m disks) row (mod_below s l some)
     ∙ ap (λ k. get_or (minor_cycle m disks k) (s % l) None) (zero-add (s / l))
 
--- The slots of item q of disk n are those of one rest.
+-- The slots of item q of disk n are those of one remainder.
 module _ (m q i : ℕ) (disks : List Disk) (n : ℕ) (d : Disk) (apart : Distinct (all_items disks)) (at : slice_get disks n ≡ Some d) (item : slice_get d.items q ≡ Some i)
     (some : 0 < num_chunks m d) where
   place_below : minor_len m (take n disks) + q % chunk_len m d < minor_len m disks

@@ -1,5 +1,5 @@
--- What lines tell: each is sound where the history judges, and under F-Matrix it tells whether the reads are consistent. Each law is an
--- instance of `kept`.
+-- What lines tell: by the history each line is sound, and under F-Matrix it tells whether the reads are consistent. Each law is
+-- an instance of `kept`.
 use Rattle.std.proofs.Common.{◌≡◌, ℕ, zero, suc, ◌<◌, ◌≤◌, true, false, Option, Some, None, List, [], ◌∷◌, ◌++◌, length, map, take, get_or, All, refl, sym, ◌∙◌, ap, subst, arith}
 use Rattle.std.specs.Prelude.{IfSome, IsTrue}
 use Rattle.std.specs.List.{slice_get}
@@ -27,7 +27,7 @@ use Rattle.air_model.specs.Buckets.{Bucket, Body, Idle, Column, Vector}
 use Rattle.air_model.specs.Reads.{Read}
 use Rattle.air_model.specs.Aired.{Air, fits}
 use Rattle.air_model.specs.Judges.{Judge, place_of, by_history}
-use Rattle.air_model.specs.Sessions.{Reader, Line, line_of, read_in, session}
+use Rattle.air_model.specs.Sessions.{Reader, SessionLine, line_of, read_in, session}
 use Rattle.air_model.specs.SessionLaws.{CyclesFromOne, are_far, decided_on, IsSoundLine, QueriesFilled, reads_at}
 use Rattle.air_model.proofs.HeardLemmas.{none_far}
 use Rattle.air_model.proofs.MomentLemmas.{item_after, Keeps, Gives, kept}
@@ -141,15 +141,15 @@ refuses H R x c are pos k e both =
     let f : ◌≡◌ {A = Option Clash} None (Some c) = sym none ∙ e in
     cc
 
--- Accepted reads are all of the query's, and consistent; an aborted attempt's reads are consistent, and with the refused
--- read they aren't; an unfinished attempt's reads are consistent, and some are missing.
+-- Accepted reads are all of the query's, and consistent. An aborted attempt's reads are consistent, but not together with the
+-- refused read. An unfinished attempt's reads are consistent, and some are missing.
 unfoldable pub Tells : List Event → List ℕ → VerdictKind → List ReadAt → Type 0
 Tells H query Accept R = (map (λ r. r.item) R ≡ query) × IsConsistent H R
 Tells H query (Abort item cycle clash) R = IsConsistent H R × (IsConsistent H (R ++ record { item = item; cycle = cycle } ∷ []) → ⊥)
 Tells H query (Aged item cycle) R = Unit {0}
 Tells H query Unfinished R = IsConsistent H R × (length R < length query)
 
--- The reads on which an aged verdict was decided lie too far apart, and those of the others don't.
+-- The reads on which an aged verdict was decided are too far apart; those of other verdicts aren't.
 abbrev pub TellsSpan : ℕ → VerdictKind → List ReadAt → Type 0
 TellsSpan version (Aged item cycle) R = are_far version R ≡ true
 TellsSpan version other R = are_far version R ≡ false
@@ -167,7 +167,7 @@ verdict V air H reader heard f filled cycles = kept (by_history air.scheme V H) 
     K : ℕ → ℕ → List Read → Type 0
     K q a R = AreAccepted air.scheme.policy H R × InQuery reader q R × (are_far air.version (map place_of R) ≡ false)
 
-    L : Line → Type 0
+    L : SessionLine → Type 0
     L l = Tells H (get_or reader.queries l.verdict.query []) l.verdict.kind (reads_at l) × TellsSpan air.version l.verdict.kind (decided_on l.verdict.kind (reads_at l))
 
     same : (q a : ℕ) (kind : VerdictKind) (R : List Read) → map place_of R ≡ reads_at (line_of (by_history air.scheme V H) q a kind R)

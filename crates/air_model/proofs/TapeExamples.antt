@@ -10,14 +10,14 @@ whole : (length (tape_of both) ≡ 72) × (tape_read (tape_of both) ≡ record {
 unfolding tape_of record_bytes read_from ends_inside
 whole = (refl, refl)
 
--- Inside the second record, inside its length, and before it.
+-- Cut inside the second record, inside its length, and before it.
 cut_short : (tape_read (take 60 (tape_of both)) ≡ record { records = first_bytes ∷ []; cut = Some 36 })
     × (tape_read (take 38 (tape_of both)) ≡ record { records = first_bytes ∷ []; cut = Some 36 })
     × (tape_read (take 36 (tape_of both)) ≡ record { records = first_bytes ∷ []; cut = None })
 unfolding tape_of record_bytes read_from ends_inside
 cut_short = (refl, refl, refl)
 
--- A record may have no bytes; four bytes of a great length are cut.
+-- A record may have no bytes; four bytes of a great length with nothing after them are cut.
 empty_record : (tape_read (0 ∷ 0 ∷ 0 ∷ 0 ∷ []) ≡ record { records = [] ∷ []; cut = None }) × (tape_read (255 ∷ 255 ∷ 255 ∷ 255 ∷ []) ≡ record { records = []; cut = Some 0 })
 unfolding read_from ends_inside
 empty_record = (refl, refl)

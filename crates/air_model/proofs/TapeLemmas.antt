@@ -1,5 +1,5 @@
 -- What a tape holds: the reading takes whole records off the front until nothing is left or a record is cut.
--- `whole_read` and `cut_read` say what is read where the records are known, `tells` what the reading tells of any bytes.
+-- `whole_read` and `cut_read` say what is read if the records are known, `tells` what the reading of any bytes tells.
 use Rattle.std.proofs.Common.{◌≡◌, ◌≤◌, ◌<◌, ◌+◌, ◌-◌, ◌^◌, ◌++◌, ◌&&◌, ◌||◌, ◌==◌, if◌then◌else◌, nat_lt, ℕ, zero, suc, Bool, true, false, Option, Some, None, List, [], ◌∷◌, length, take, drop, refl, sym, ◌∙◌, ap, subst, arith, append_assoc, ◌↔◌}
 use Rattle.std.specs.Prelude.{All}
 use Rattle.std.proofs.lemmas.Bool.{and_right, eqb-false, ltb-false, ne_eqb, or_from, eqb-true, le-ltb, lt-ltb, false≢true}
@@ -23,7 +23,7 @@ pub number_record : (r s : List ℕ) → length r < 2 ^ 32 → big_number 4 (rec
 unfolding record_bytes
 number_record r s short = big_number-reads_back 4 (length r) (r ++ s) short
 
--- A record's bytes stand behind its length, and what follows behind these.
+-- A record's bytes follow its length, and what follows the record comes after its bytes.
 pub record_first : (r s : List ℕ) → take (length r) (drop 4 (record_bytes r ++ s)) ≡ r
 unfolding record_bytes
 record_first r s = take_at r s (length r) refl
@@ -44,7 +44,7 @@ record_is rest n all long e room =
     ∙ ap (λ l. big_bytes 4 (length r) ++ l) (sym (take-append-drop n (drop 4 rest)) ∙ ap (λ l. r ++ l) (drop-drop n 4 rest ∙ ap (λ k. drop (4 + k) rest) (sym size)))
     ∙ sym (append_assoc (big_bytes 4 (length r)) r (drop (4 + length r) rest))
 
--- ---- where a record is cut
+-- ---- the place where a record is cut
 -- a whole record isn't cut.
 pub record_not_cut : (r s : List ℕ) → length r < 2 ^ 32 → ends_inside (record_bytes r ++ s) ≡ false
 unfolding ends_inside
@@ -62,7 +62,7 @@ pub cut_within : (rest : List ℕ) (n : ℕ) → 4 ≤ length rest → n ≡ big
 unfolding ends_inside
 cut_within rest n long e short = rw (lt-ltb 0 (length rest) (omega arith), le-ltb (length rest) 4 long, lt-ltb (length rest) (4 + big_number 4 rest) (omega arith)) refl
 
--- What a cut tells, and what it tells that nothing is cut.
+-- What it tells that a record is cut, and what it tells that none is.
 pub cut_some : (rest : List ℕ) → ends_inside rest ≡ true → 0 < length rest
 unfolding ends_inside
 cut_some [] cut = absurd (false≢true cut)
@@ -90,7 +90,7 @@ read_record n at r s short =
     by rest some whole number first after =
         rw (some, whole, number, first, after) refl
 
--- A cut record is read as one.
+-- A cut record is read as cut.
 pub read_cut : (n at : ℕ) (rest : List ℕ) → ends_inside rest ≡ true → length rest ≤ n → read_from n at rest ≡ record { records = []; cut = Some at }
 unfolding read_from
 read_cut zero at rest cut room = absurd (let some = cut_some rest cut in omega arith)
@@ -110,7 +110,7 @@ whole_read (r ∷ rs) (suc n) at short room =
     read_record n at r (tape_of rs) (All-head (λ r. length r < 2 ^ 32) r rs short)
     ∙ record_then r rs None (read_from n (at + (4 + length r)) (tape_of rs)) (whole_read rs n (at + (4 + length r)) (All-tail (λ r. length r < 2 ^ 32) r rs short) (omega arith))
 
--- Records before a cut one are read, and the cut stands behind them.
+-- Records before a cut one are read, and the cut is after them.
 pub cut_read : (rs : List (List ℕ)) (tail : List ℕ) (n at : ℕ) → AreShort rs → ends_inside tail ≡ true → length (tape_of rs ++ tail) ≤ n
     → read_from n at (tape_of rs ++ tail) ≡ record { records = rs; cut = Some (at + length (tape_of rs)) }
 unfolding tape_of
@@ -127,7 +127,7 @@ cut_read (r ∷ rs) tail (suc n) at short cut room =
     ∙ ap (λ p. let t : TapeRead = record { records = r ∷ rs; cut = Some p } in t) (omega arith)
 
 -- ---- what is told of any bytes
--- the records stand at the front, and what follows them ends inside its first record.
+-- the records are at the front, and what follows them ends inside its first record.
 pub record CutBehind (rest : List ℕ) (rs : List (List ℕ)) (q : ℕ) : Type 0 where
   pub short : AreShort rs
   pub tail : List ℕ
@@ -166,7 +166,7 @@ more at r s rs (Some p) short t =
 bytes_behind : (k : ℕ) (rest : List ℕ) → AllBytes rest → AllBytes (drop k rest)
 bytes_behind k rest all i = subst (λ x. x < 256) (sym (get_or-drop k rest i 0)) (all (k + i))
 
--- One step of the reading, from what the reading behind the first record tells.
+-- One step of the reading, from what the reading after the first record tells.
 step : (at : ℕ) (rest : List ℕ) (after : TapeRead) (a b : Bool) → AllBytes rest → (length rest == 0) ≡ a → ends_inside rest ≡ b
     → Tells (at + (4 + big_number 4 rest)) (drop (4 + big_number 4 rest) rest) after.records after.cut
     → let read = if a then record { records = []; cut = None } else if b then record { records = []; cut = Some at } else with_record (take (big_number 4 rest) (drop 4 rest)) after in

@@ -14,7 +14,7 @@ use Rattle.air_model.specs.Sessions.{read_in}
 abbrev pub carries_in : ℕ → ℕ → Bucket → Bool
 carries_in c i b = (b.cycle == c) && option_map_or (λ r. r.item == i) (read_in b.cycle b.body) false
 
--- An item stands on a disk of the cycle's edition, and in this cycle just so many of the buckets carry it as the disk says.
+-- An item is on a disk of the cycle's edition, and the number of buckets that carry it in this cycle is the disk's frequency.
 pub record IsAiredItem (deck : Deck) (c i : ℕ) (buckets : List Bucket) : Type 0 where
   pub number : ℕ
   pub disk : Disk

@@ -8,7 +8,7 @@ use Rattle.air_model.specs.Aired.{Air, air_of, buckets_of, cycle_buckets}
 use Rattle.air_model.specs.Buckets.{Bucket}
 use Rattle.air_model.specs.Decks.{Deck, values_in}
 
--- The last event of the batch is its one start.
+-- The batch has one start, which is its last event.
 pub record EndsWithStart (batch : List Event) : Type 0 where
   pub commits : List Event
   pub ends : batch ≡ commits ++ Start ∷ []
@@ -22,12 +22,12 @@ events_in batches = flat_map (λ batch. batch) batches
 abbrev pub last_buckets : List ℕ → Air → List Event → List Bucket
 last_buckets values air G = cycle_buckets values air G (starts G)
 
--- What batches air, one after another: after each the cycle that it ends with, from the history as far as this batch goes.
+-- What batches air, one after another: each airs the cycle that it ends with, from the history up to and with this batch.
 abbrev pub aired_by : List ℕ → Air → List (List Event) → List Bucket
 aired_by values air batches = flat_map (λ n. last_buckets values air (events_in (take n batches))) (range_with_len 1 (length batches))
 
--- A history of the deck is aired by these batches: there is one for each of its cycles, and each ends with its start; joined they are
--- the history up to its last start; and what the history airs is what they air, one after another.
+-- A history of the deck is aired by these batches. There is one batch for each of its cycles, which ends with the cycle's
+-- start. Joined they are the history up to its last start. What the history airs is what they air, one after another.
 pub record AirsByBatches (deck : Deck) (H : List Event) (batches : List (List Event)) : Type 0 where
   pub count : length batches ≡ starts H
   pub each : All EndsWithStart batches

@@ -1,6 +1,6 @@
--- The bucket: what it says, its one spelling in bytes, and the first fault of bytes that spell none.
--- Sessions speak of `Bucket`, the codec and the tape of its bytes. The spelling goes from front to back, the
--- reading by places: that the two meet is `reading_law` of `bucket`.
+-- The bucket: what it says, its one spelling in bytes, and the first fault of bytes that spell none. Sessions use `Bucket`; the
+-- codec and the tape use its bytes. The spelling goes from front to back, and the reading goes by places; `reading_law` of
+-- `bucket` says that they agree.
 use Rattle.std.specs.Prelude.{◌≡◌, ◌<◌, ◌≤◌, ◌⊎◌, ℕ, zero, suc, ◌+◌, ◌-◌, ◌*◌, ◌^◌, Bool, not, ◌&&◌, ◌||◌, ◌==◌, nat_lt, nat_le, if◌then◌else◌, List, [], ◌∷◌, ◌++◌, length, map, drop, slice_index, flat_map, All, IsTrue, Option, Result, Ok, Err}
 use Rattle.std.specs.List.{list_all, range_with_len}
 use Rattle.std.specs.Result.{result_ok, result_err}
@@ -12,7 +12,8 @@ use Rattle.air_model.specs.declared.bucket.BucketFault.TheVariants.{Short, Magic
 
 -- ---- versions
 
--- From version 2 on a bucket has the ages of its entries, of one byte each; in version 1 the entries themselves, of four bytes.
+-- Whether buckets of this version have ages of one byte each, as from version 2 on; in version 1 the entries are in full, of
+-- four bytes each.
 abbrev pub has_ages : ℕ → Bool
 has_ages version = nat_le 2 version
 
@@ -20,13 +21,14 @@ has_ages version = nat_le 2 version
 abbrev pub most_count : ℕ → ℕ
 most_count version = if has_ages version then MOST_ITEMS else MOST_FULL_ITEMS
 
--- The bytes of an entry.
+-- The number of bytes of an entry.
 abbrev pub entry_len : ℕ → ℕ
 entry_len version = if has_ages version then 1 else 4
 
 -- ---- buckets
 
--- What a bucket carries: the number of items alone in an idle slot; else an item, its value, and an entry for each item.
+-- What a bucket carries. An idle slot has only the number of items; another slot has an item, its value, and an entry for each
+-- item.
 pub data Body : Type 0 where
   Idle : ℕ → Body
   Column : ℕ → ℕ → List ℕ → Body
@@ -70,25 +72,25 @@ entries_of (Idle count) = []
 entries_of (Column item value entries) = entries
 entries_of (Vector item value entries) = entries
 
--- ---- entries as ages tell them
+-- ---- entries as ages give them
 
--- The entries as a bucket of this version and cycle tells them: those that are too old for an age are 0 where it has ages.
+-- The entries as a bucket of this version and cycle gives them: if it has ages, those that are too old for an age are 0.
 unfoldable pub capped_entries : ℕ → ℕ → List ℕ → List ℕ
 capped_entries version c entries = if has_ages version then map (λ e. capped e c) entries else entries
 
--- The body with its entries told so.
+-- The body with such entries.
 unfoldable pub capped_body : ℕ → ℕ → Body → Body
 capped_body version c (Idle count) = Idle count
 capped_body version c (Column item value entries) = Column item value (capped_entries version c entries)
 capped_body version c (Vector item value entries) = Vector item value (capped_entries version c entries)
 
--- The bucket with its entries as its version tells them in its cycle.
+-- The bucket with its entries as its version gives them in its cycle.
 abbrev pub capped_bucket : Bucket → Bucket
 capped_bucket b = record b { body = capped_body b.version b.cycle b.body }
 
 -- ---- the spelling
 
--- The age of an entry in cycle c; the cap where there is no writer.
+-- The age of an entry in cycle c; the cap if there is no writer.
 abbrev pub age_of : ℕ → ℕ → ℕ
 age_of c e = if e == 0 then AGE_CAP else c - e
 
@@ -102,8 +104,8 @@ spelling b =
     0x41 ∷ 0x44 ∷ b.version ∷ kind_of b.body ∷ [] ++ big_bytes 2 b.edition ++ big_bytes 2 (count_of b.body) ++ big_bytes 4 b.cycle ++ big_bytes 2 b.slot
     ++ big_bytes 2 (item_of b.body) ++ big_bytes 8 (value_of b.body) ++ flat_map (entry_bytes b.version b.cycle) (entries_of b.body)
 
--- The numbers of a bucket are in range: the version is 1 or 2, each number is below its width, cycles count from 1, an item is below
--- the number of items, each entry is below the cycle, and an age can tell it where the bucket has ages.
+-- The numbers of a bucket are in range: the version is 1 or 2, each number fits its width, cycles count from 1, an item is
+-- below the number of items, each entry is below the cycle and, if the bucket has ages, an age gives it.
 pub record IsInRange (b : Bucket) : Type 0 where
   pub version : (b.version ≡ 1) ⊎ (b.version ≡ 2)
   pub edition : b.edition < 2 ^ 16
@@ -119,7 +121,7 @@ pub record IsInRange (b : Bucket) : Type 0 where
 
 -- ---- the reading
 
--- The bytes are this bucket: it is in range, they are its spelling, and nothing follows.
+-- The bytes are this bucket's: it is in range, and they are its spelling with nothing after it.
 abbrev pub IsBucket : List ℕ → Bucket → Type 0
 IsBucket bytes b = IsInRange b × (bytes ≡ spelling b)
 
@@ -131,7 +133,7 @@ AreBytes bytes = All (λ x. x < 256) bytes
 abbrev pub number_at : ℕ → ℕ → List ℕ → ℕ
 number_at at n bytes = big_number n (drop at bytes)
 
--- How many entries stand in bytes of this kind and count.
+-- The number of entries in bytes of this kind and count.
 unfoldable pub entry_count : ℕ → ℕ → ℕ
 entry_count kind count = if kind == 0 then 0 else count
 
@@ -143,11 +145,12 @@ raw_entry version i bytes = number_at (24 + entry_len version * i) (entry_len ve
 unfoldable pub raw_entries : ℕ → ℕ → List ℕ → List ℕ
 raw_entries version n bytes = map (λ i. raw_entry version i bytes) (range_with_len 0 n)
 
--- The entry for which this number stands in cycle c.
+-- The entry that this number means in cycle c.
 unfoldable pub entry_told : ℕ → ℕ → ℕ → ℕ
 entry_told version c a = if has_ages version then (if a == AGE_CAP then 0 else c - a) else a
 
--- Whether this number stands for an entry in cycle c: an age is the cap, or from 1 on and below the cycle; an entry is below the cycle.
+-- Whether this number stands for an entry in cycle c. An age is the cap, or at least 1 and below the cycle; an entry is below
+-- the cycle.
 unfoldable pub is_entry : ℕ → ℕ → ℕ → Bool
 is_entry version c a = if has_ages version then (a == AGE_CAP) || (nat_le 1 a && nat_lt a c) else nat_lt a c
 
@@ -171,7 +174,7 @@ bucket_at bytes = record {
   body = body_at (slice_index bytes 2) (number_at 8 4 bytes) (slice_index bytes 3) bytes;
 }
 
--- Whether these are an idle slot's item and value, or those of another slot.
+-- Whether these are the item and the value of an idle slot, or of another slot.
 unfoldable pub is_placed : ℕ → ℕ → ℕ → ℕ → Bool
 is_placed kind item value count = if kind == 0 then (item == 65535) && (value == 0) else nat_lt item count
 
@@ -182,7 +185,7 @@ is_shaped bytes =
     && is_placed (slice_index bytes 3) (number_at 14 2 bytes) (number_at 16 8 bytes) (number_at 6 2 bytes)
     && list_all (is_entry (slice_index bytes 2) (number_at 8 4 bytes)) (raw_entries (slice_index bytes 2) (entry_count (slice_index bytes 3) (number_at 6 2 bytes)) bytes)
 
--- What the bytes say: the first fault that applies, or else their bucket.
+-- What the bytes say: the first fault that applies, otherwise their bucket.
 unfoldable pub reading : List ℕ → Result Bucket BucketFault
 reading bytes =
     if nat_lt (length bytes) 24 then Err (Short (length bytes))
@@ -197,6 +200,6 @@ reading bytes =
 abbrev pub fault_of : List ℕ → Option BucketFault
 fault_of bytes = result_err (reading bytes)
 
--- The bucket of the bytes, if they spell one: so heard bytes become a member of a heard list.
+-- The bucket of the bytes, if they spell one. It makes a member of a heard list from heard bytes.
 abbrev pub bucket_in : List ℕ → Option Bucket
 bucket_in bytes = result_ok (reading bytes)

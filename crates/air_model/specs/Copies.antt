@@ -1,6 +1,6 @@
--- The copies that a receiver keeps: of those before and a newcomer the greatest by PIX number, as many as there is room for.
--- A copy's place in the order is told by how many others go before it, so nothing is sorted.
--- The laws are the contracts of `copies`.
+-- The copies that a receiver keeps: of the earlier ones and a new one, those with the greatest PIX numbers, as many as there is
+-- room for. A copy's place in the order is the number of others that go before it, so nothing is sorted. The laws are the
+-- contracts of `copies`.
 use Rattle.std.specs.Prelude.{◌<◌, ℕ, Bool, not, ◌&&◌, ◌||◌, ◌==◌, nat_lt, List, ◌∷◌, ◌++◌, slice_index, filter, count_by, AllPairs}
 use Rattle.air_model.specs.Reads.{Read}
 
@@ -8,11 +8,11 @@ use Rattle.air_model.specs.Reads.{Read}
 abbrev pub pix_of : List ℕ → Read → ℕ
 pix_of pix r = slice_index pix r.item
 
--- Whether the copy b goes before a: by greater PIX number, then by smaller item number.
+-- Whether the copy b goes before a: it has a greater PIX number, or the same one and a smaller item number.
 abbrev pub goes_before : List ℕ → Read → Read → Bool
 goes_before pix b a = nat_lt (pix_of pix a) (pix_of pix b) || ((pix_of pix a == pix_of pix b) && nat_lt b.item a.item)
 
--- The copies that stay: those before which fewer others go than there is room for.
+-- The copies that stay: those with fewer others before them than there is room for.
 unfoldable pub keep : ℕ → List ℕ → List Read → List Read
 keep room pix copies = filter (λ a. nat_lt (count_by (λ b. goes_before pix b a) copies) room) copies
 
@@ -20,10 +20,10 @@ keep room pix copies = filter (λ a. nat_lt (count_by (λ b. goes_before pix b a
 unfoldable pub without_item : ℕ → List Read → List Read
 without_item item copies = filter (λ r. not (r.item == item)) copies
 
--- The copies with a new one in place of that of the same item: they stand by rising item number.
+-- The copies with a new one in place of that of the same item, by rising item number.
 unfoldable pub with_copy : Read → List Read → List Read
 with_copy x copies = filter (λ r. nat_lt r.item x.item) copies ++ x ∷ filter (λ r. nat_lt x.item r.item) copies
 
--- Copies stand by rising item number, so no two are of one item.
+-- Copies are by rising item number, so no two are of one item.
 abbrev pub HaveOwnItems : List Read → Type 0
 HaveOwnItems copies = AllPairs (λ a b. a.item < b.item) copies

@@ -1,5 +1,5 @@
--- The words of the laws of what legal and whole histories are, updater by updater, `legal_law` and `whole_law` of `deck`, and
--- of the law that their rows tell them, `one_rows_law`.
+-- The definitions of two kinds of laws: what legal and whole histories are, updater by updater (`legal_law` and `whole_law` of
+-- `deck`), and that their rows determine them (`one_rows_law`).
 use Rattle.std.specs.Prelude.{ℕ, suc, ◌^◌, ◌≤◌, List, [], ◌∷◌, length}
 use Rattle.std.specs.List.{filter}
 use Rattle.air_history.specs.declared.histories.Event.{Event}
@@ -11,7 +11,7 @@ use Rattle.air_model.specs.Decks.{Deck, is_by, updates_by}
 unfoldable pub made_by : ℕ → List Event → List Event
 made_by by H = filter (is_by by) H
 
--- The commits that an updater makes of updates in order, numbered from `seq` on.
+-- The commits that an updater makes of these updates in order, numbered from `seq` on.
 unfoldable pub commits_from : ℕ → ℕ → List UpdateLists → List Event
 commits_from by seq [] = []
 commits_from by seq (u ∷ us) = Commit by seq u ∷ commits_from by (suc seq) us

@@ -1,5 +1,5 @@
--- The plain deck: what its records say, whatever their order; the histories that keep to it; its script's history.
--- The laws of `deck` say what legal histories are by updater, and that the script's history is legal.
+-- The plain deck: what its records say, in any order; the histories that keep to it; its script's history. The laws of `deck`
+-- say what legal histories are by updater, and that the script's history is legal.
 use Rattle.std.specs.Prelude.{◌≡◌, ◌⊎◌, ℕ, zero, suc, ◌+◌, ◌^◌, ◌<◌, ◌≤◌, Bool, false, ◌==◌, nat_le, List, [], length, map, take, get_or, count_by, sum_by, slice_get, All, AllPairs, Option, Some, None}
 use Rattle.std.specs.List.{range_with_len}
 use Rattle.std.specs.Option.{option_map_or}
@@ -14,18 +14,18 @@ use Rattle.air_model.specs.declared.deck.Settings.{Settings}
 use Rattle.air_model.specs.Buckets.{most_count}
 use Rattle.air_model.specs.Disks.{Disk, DiskSpec, cut, order}
 
--- An item of the catalog has its first value and its rate.
+-- An item of the catalog: its first value and its rate.
 pub record Item : Type 0 where
   pub value : ℕ
   pub rate : ℕ
 
--- A replan has the cycle from which on it is in force, and its disks.
+-- A replan: the cycle from which on it is in force, and its disks.
 pub record Replan : Type 0 where
   pub cycle : ℕ
   pub disks : List DiskSpec
 
--- A deck has items, disks and replans, the updates of each updater, the readers and the queries of each, the script, whose
--- parts are starts and numbers of updaters, and the settings.
+-- A deck: items, disks and replans, the updates of each updater, the readers and the queries of each, the script, which lists
+-- starts and numbers of updaters, and the settings.
 pub record Deck : Type 0 where
   pub items : List Item
   pub disks : List DiskSpec
@@ -46,24 +46,24 @@ rates_in deck = map (λ i. i.rate) deck.items
 
 -- ---- editions
 
--- The edition of a cycle is the number of replans that are in force by then; edition 0 has the deck's own disks.
+-- The edition of a cycle is the number of replans whose cycle is at most this one; edition 0 has the deck's own disks.
 abbrev pub edition : Deck → ℕ → ℕ
 edition deck c = count_by (λ r. nat_le r.cycle c) deck.replans
 
--- A deck has one edition more than replans.
+-- The number of editions, which is one more than the number of replans.
 abbrev pub count_editions : Deck → ℕ
 count_editions deck = length deck.replans + 1
 
--- The replan that stands for one that a deck doesn't have: without a disk.
+-- Stands for a replan that a deck doesn't have: it has no disk.
 abbrev pub no_replan : Replan
 no_replan = record { cycle = 0; disks = [] }
 
--- The disks of an edition, as the deck says them.
+-- The disks of an edition, as the deck gives them.
 abbrev pub specs_in : Deck → ℕ → List DiskSpec
 specs_in deck zero = deck.disks
 specs_in deck (suc k) = (get_or deck.replans k no_replan).disks
 
--- The disks of an edition with their items: its cut of the order of the items.
+-- The disks of an edition with their items, which are cut from the order of the items.
 abbrev pub disks_in : Deck → ℕ → List Disk
 disks_in deck e = cut (order (rates_in deck)) (specs_in deck e)
 
@@ -75,7 +75,7 @@ updates_by deck by = get_or deck.updates by []
 
 -- ---- histories that keep to the deck
 
--- An event is the updater's where it is a commit of it.
+-- Whether the event is a commit of the updater.
 unfoldable pub is_by : ℕ → Event → Bool
 is_by by (Commit who seq update) = who == by
 is_by by Start = false
@@ -84,17 +84,17 @@ is_by by Start = false
 abbrev pub count_made : ℕ → List Event → ℕ
 count_made by H = count_by (is_by by) H
 
--- A commit is its updater's next after the events before it: its number is that of the updater's commits there, and
--- its update is the deck's of that number.
+-- A commit is its updater's next after the events before it: its number is the number of the updater's commits among these, and
+-- its update is the deck's update of that number.
 pub record IsNextCommit (deck : Deck) (before : List Event) (by seq : ℕ) (update : UpdateLists) : Type 0 where
   pub number : seq ≡ count_made by before
   pub given : slice_get (updates_by deck by) seq ≡ Some update
 
--- A history is legal for the deck where each of its commits is its updater's next.
+-- A history is legal for the deck if each of its commits is its updater's next.
 abbrev pub IsLegal : Deck → List Event → Type 0
 IsLegal deck H = (p by seq : ℕ) (update : UpdateLists) → slice_get H p ≡ Some (Commit by seq update) → IsNextCommit deck (take p H) by seq update
 
--- A history is whole for the deck where it is legal and has all of the deck's updates and cycles.
+-- A history is whole for the deck if it is legal and has all of the deck's updates and cycles.
 pub record IsWhole (deck : Deck) (H : List Event) : Type 0 where
   pub legal : IsLegal deck H
   pub all : (by : ℕ) → count_made by H ≡ length (updates_by deck by)
@@ -102,28 +102,28 @@ pub record IsWhole (deck : Deck) (H : List Event) : Type 0 where
 
 -- ---- the script
 
--- The number of an updater's parts: those that are its number.
-abbrev pub count_parts : ℕ → List (Option ℕ) → ℕ
-count_parts by parts = count_by (λ part. option_map_or (λ who. who == by) part false) parts
+-- How many commits of an updater a script lists: each is listed as the updater's number.
+abbrev pub scripted_commits : ℕ → List (Option ℕ) → ℕ
+scripted_commits by script = count_by (λ event. option_map_or (λ who. who == by) event false) script
 
 -- The deck's update of a number, for a number that it has.
 abbrev pub update_at : Deck → ℕ → ℕ → UpdateLists
 update_at deck by seq = get_or (updates_by deck by) seq (record { reads = []; writes = [] })
 
--- The event of a part after the parts before it: a start, or the updater's next commit.
+-- The event that a script lists after what it lists before: a start, or the updater's next commit.
 unfoldable pub event_of : Deck → List (Option ℕ) → Option ℕ → Event
 event_of deck before None = Start
-event_of deck before (Some by) = Commit by (count_parts by before) (update_at deck by (count_parts by before))
+event_of deck before (Some by) = Commit by (scripted_commits by before) (update_at deck by (scripted_commits by before))
 
--- The script's history has the events of its parts in order.
+-- The script's history: the events that the script lists, in order.
 unfoldable pub script_history : Deck → List Event
 script_history deck = map (λ k. event_of deck (take k deck.script) (get_or deck.script k None)) (range_with_len 0 (length deck.script))
 
 -- The script commits no more updates of an updater than the deck has.
 abbrev pub ScriptFits : Deck → Type 0
-ScriptFits deck = (by : ℕ) → count_parts by deck.script ≤ length (updates_by deck by)
+ScriptFits deck = (by : ℕ) → scripted_commits by deck.script ≤ length (updates_by deck by)
 
--- ---- what a deck in the grammar keeps
+-- ---- what holds of a deck in the grammar
 
 -- An update keeps the rules of updates, its items are below n, and its amounts are numbers of 64 bits.
 pub record IsUpdate (n : ℕ) (u : UpdateLists) : Type 0 where
@@ -137,9 +137,9 @@ pub record IsQuery (n : ℕ) (items : List ℕ) : Type 0 where
   pub distinct : has_repeat items ≡ false
   pub within : All (λ i. i < n) items
 
--- A deck is well made where it has items, as many as its version takes at most, with values of 64 bits, the disks of each edition take all of
--- them, each disk is aired, replans are few and come into force one after another, from cycle 2 on and within the cycles of the longest run,
--- and updates, readers, queries and script are right.
+-- A deck is well made if all this holds. It has items, at most as many as its version takes, with values of 64 bits. The disks
+-- of each edition take all items, and each disk is aired. There are few replans, which come into force one after another, from
+-- cycle 2 on and within the cycles of the longest run. Updates, readers, queries and script are valid.
 pub record IsDeck (deck : Deck) : Type 0 where
   pub some : 0 < length deck.items
   pub version : (deck.settings.version ≡ 1) ⊎ (deck.settings.version ≡ 2)

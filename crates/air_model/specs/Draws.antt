@@ -1,5 +1,5 @@
--- The words that a seed and a stream give: what an ether draws for its reader, and what a drill draws its deck from.
--- A word is a 32-bit output of the generator; no proof opens its arithmetic.
+-- The words that a seed and a stream give: an ether draws them for its reader, and a drill draws its deck from them. A word is
+-- a 32-bit output of the generator; no proof opens its arithmetic.
 use Rattle.std.specs.Prelude.{ℕ, zero, suc, ◌%◌, List, [], ◌∷◌, ◌++◌}
 use Rattle.rand_pcg.specs.Lcg.{Lcg, increment_of, started}
 use Rattle.rand_pcg.specs.Pcg.{multiplier_64, pcg32}
@@ -8,7 +8,7 @@ use Rattle.rand_pcg.specs.Pcg.{multiplier_64, pcg32}
 abbrev pub generator : ℕ → ℕ → Lcg
 generator seed stream = started 64 multiplier_64 seed (increment_of 64 stream)
 
--- The next n words of a generator whose step is this.
+-- The next n words of a generator with this step.
 unfoldable pub words_by : {S : Type 0} → (S → ℕ × S) → ℕ → S → List ℕ
 words_by step zero g = []
 words_by step (suc n) g = (step g).0 ∷ words_by step n (step g).1
@@ -19,15 +19,15 @@ words_of seed stream n = words_by pcg32 n (generator seed stream)
 
 -- ---- draws
 
--- A draw takes words from a generator: it gives a value, and the generator that is left.
+-- A draw takes words from a generator: it gives a value and the generator that is left.
 abbrev pub Draw : Type 0 → Type 0
 Draw A = Lcg → A × Lcg
 
--- What was drawn is handed to the next draw, with the generator that is left.
+-- Passes what was drawn on to the next draw, with the generator that is left.
 abbrev pub go_on : {A B : Type 0} → A × Lcg → (A → Draw B) → B × Lcg
 go_on (x, left) next = next x left
 
--- One draw, and then another that may depend on what came.
+-- One draw, and then another that may depend on the first one's value.
 infixl 10 ◌>>=◌
 abbrev pub ◌>>=◌ : {A B : Type 0} → Draw A → (A → Draw B) → Draw B
 (one >>= next) g = go_on (one g) next

@@ -1,5 +1,5 @@
--- The two judges of a receiver's reads: the history, and the entries that were heard. The first sees of a read its
--- item and its cycle alone, so no column, vector or heard value stands in it.
+-- The two judges of a receiver's reads: the history, and the entries that were heard. The history sees of a read only its item
+-- and its cycle, so it uses no column, vector or heard value.
 use Rattle.std.specs.Prelude.{ℕ, List, map, Option}
 use Rattle.air_base.specs.declared.verdicts.Clash.{Clash}
 use Rattle.air_history.specs.declared.histories.Event.{Event}
@@ -14,22 +14,22 @@ pub record Judge : Type 0 where
   pub value : Read → ℕ
   pub clash : List Read → Read → Option Clash
 
--- What the history sees of a read is its item and its cycle.
+-- What the history sees of a read: its item and its cycle.
 abbrev pub place_of : Read → ReadAt
 place_of r = record { item = r.item; cycle = r.cycle }
 
--- What the entries see of a read is its item, its cycle and its entries.
+-- What the entries show of a read: its item, its cycle and its entries.
 abbrev pub heard_of : Read → HeardRead
 heard_of r = record { item = r.item; cycle = r.cycle; entries = r.entries }
 
--- The history judges by origins, and takes values from its tables.
+-- The judge by the history: it judges by origins, and takes values from the history's tables.
 unfoldable pub by_history : Scheme → List ℕ → List Event → Judge
 by_history scheme values H = record {
   value = λ r. read_value (values_of values) H (place_of r);
   clash = λ R x. clash_by_history scheme.policy H (map place_of R) (place_of x);
 }
 
--- The entries judge by the cycles in them, and take the heard values.
+-- The judge by the entries: it judges by the cycles in them, and takes the heard values.
 unfoldable pub by_entries : Scheme → Judge
 by_entries scheme = record {
   value = λ r. r.value;

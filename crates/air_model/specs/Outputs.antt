@@ -1,5 +1,5 @@
--- What each command prints and writes, as functions of the plain deck and of what else it reads or was run. So an output is a
--- function of its inputs; only `run` and `cast` have a history besides, and what monitors saw.
+-- What each command prints and writes, as functions of the plain deck and of what else it reads or runs. So an output is a
+-- function of its inputs. Only `run` and `cast` also depend on a history and on what monitors saw.
 use Rattle.std.specs.Prelude.{ℕ, List, [], length, map}
 use Rattle.std.specs.List.{range_with_len}
 use Rattle.air_history.specs.declared.histories.Event.{Event}
@@ -24,7 +24,7 @@ sessions_over judge deck heard = map (λ r. session_of judge deck r (map bucket_
 abbrev pub odds_in : Deck → Odds
 odds_in deck = record { loss = deck.settings.loss; again = deck.settings.again; late = deck.settings.late }
 
--- What a reader hears of a history: its buckets' bytes, through the reader's own ether.
+-- What a reader hears of a history: the bytes of its buckets, through the reader's own ether.
 abbrev pub ether_of : Deck → List Event → ℕ → List (List ℕ)
 ether_of deck H r = heard_by deck.settings.seed r (odds_in deck) (map spelling (buckets_of (values_in deck) (air_of deck) H))
 
@@ -46,12 +46,12 @@ script_output deck = report_text (session_report (script_history deck) (true_ses
 abbrev pub script_tape : Deck → List ℕ
 script_tape deck = history_tape (values_in deck) (air_of deck) (script_history deck)
 
--- What `tune` prints over the records of a tape, and `listen` over what it heard: each reader hears all of it, and
--- judges by the entries.
+-- What `tune` prints for the records of a tape, and `listen` for what it heard. Each reader hears all of it, and judges by the
+-- entries.
 abbrev pub tune_output : Deck → List (List ℕ) → List ℕ
 tune_output deck records = report_text (session_report [] (sessions_over (by_entries (scheme_in deck)) deck (λ r. records)))
 
--- What `run` prints, where its threads made this history and its monitors saw these glances and looks.
+-- What `run` prints, if its threads made this history and its monitors saw these glances and looks.
 abbrev pub run_output : Deck → List Event → List LookLine → List LookLine → List ℕ
 run_output deck H glances looks = report_text (record (session_report H (true_sessions deck H)) { glances = glances; looks = looks })
 

@@ -1,4 +1,4 @@
--- What was heard of an item: held reads, kept copies and the reads that buckets give are of this one form.
+-- What was heard of an item: held reads, kept copies and the reads that buckets give all have this form.
 use Rattle.std.specs.Prelude.{ℕ, List}
 
 -- What was heard of an item: in which cycle, its value, and the entries that came with it.

@@ -1,4 +1,4 @@
--- What the receivers of a deck tell, over every list that some history aired: the words of `receiver_law` of `sessions`.
+-- What the receivers of a deck tell, for every list that some history aired: the definitions of `receiver_law` of `sessions`.
 -- `script`, `tune`, `run` and `listen` print such sessions; what is heard may be lost, repeated and reordered.
 use Rattle.std.specs.Prelude.{◌≡◌, ℕ, List, All, Option}
 use Rattle.air_base.specs.declared.verdicts.Policy.TheVariants.{FMatrix}
@@ -10,12 +10,13 @@ use Rattle.air_model.specs.Judges.{Judge, by_entries, by_history}
 use Rattle.air_model.specs.Sessions.{State, reader_of, session}
 use Rattle.air_model.specs.SessionLaws.{IsExactLine, IsSoundLine}
 
--- The session of the deck's reader of a number.
+-- The session of the deck's reader with this number.
 abbrev pub session_of : Judge → Deck → ℕ → List (Option Bucket) → State
 session_of judge deck r heard = session judge (air_of deck) (reader_of deck r) heard
 
 -- What the deck's reader decides by the entries is what the history says: the session is the one by the history, each line is
--- sound, and under F-Matrix each verdict is exact. That each line is the reader's is the law `reader_law` of every session.
+-- sound, and under F-Matrix each verdict is exact. That each line is the reader's is `reader_law`, which holds for every
+-- session.
 pub record IsTrueSession (deck : Deck) (H : List Event) (r : ℕ) (heard : List (Option Bucket)) : Type 0 where
   pub same : session_of (by_entries (scheme_in deck)) deck r heard ≡ session_of (by_history (scheme_in deck) (values_in deck) H) deck r heard
   pub sound : All (IsSoundLine (values_in deck) deck.settings.policy H) (session_of (by_entries (scheme_in deck)) deck r heard).lines

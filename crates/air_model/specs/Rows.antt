@@ -1,11 +1,11 @@
--- The text of rows of fields, as csv writes them: fields stand between commas, and one line feed ends each row.
--- The texts of plans, reports, findings and faults are such texts.
+-- The text of rows of fields, as csv writes them: commas separate fields, and one line feed ends each row. The texts of plans,
+-- reports, findings and faults are such texts.
 use Rattle.std.specs.Prelude.{ℕ, List, true}
 use Rattle.std.specs.List.{flat_map}
 use Rattle.csv.specs.declared.writer.WriterBuilder.{WriterBuilder}
 use Rattle.csv.specs.Writing.{default_writer, row_text, with_flexible}
 
--- Rows are written with commas and line feeds, and each may have a length of its own.
+-- The writer of rows: it uses commas and line feeds, and each row may have its own length.
 abbrev pub row_writer : WriterBuilder
 row_writer = with_flexible default_writer true
 

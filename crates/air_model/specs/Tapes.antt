@@ -1,5 +1,5 @@
--- The tape: records, each with its length before it, and the byte at which a tape is cut.
--- `IsTape` and `IsCutTape` are the relations, `tape_read` the function; that they agree are the laws of `tape`.
+-- The tape: records, each with its length before it, and the byte at which a tape is cut. `IsTape` and `IsCutTape` are the
+-- relations, and `tape_read` the function; the laws of `tape` say that they agree.
 use Rattle.std.specs.Prelude.{◌≡◌, ℕ, zero, suc, ◌<◌, ◌+◌, ◌^◌, Bool, ◌&&◌, ◌||◌, ◌==◌, nat_lt, if◌then◌else◌, List, [], ◌∷◌, ◌++◌, length, take, drop, flat_map, All, IsTrue, Option, Some, None}
 use Rattle.byteorder.specs.Endian.{big_bytes, big_number}
 
@@ -11,29 +11,29 @@ record_bytes bytes = big_bytes 4 (length bytes) ++ bytes
 unfoldable pub tape_of : List (List ℕ) → List ℕ
 tape_of records = flat_map record_bytes records
 
--- The bytes are the tape of these records, whose lengths four bytes can tell.
+-- The bytes are the tape of these records, whose lengths fit in four bytes.
 abbrev pub IsTape : List ℕ → List (List ℕ) → Type 0
 IsTape bytes records = All (λ r. length r < 2 ^ 32) records × (bytes ≡ tape_of records)
 
--- Whether what is left of a tape ends inside its first record: inside the length, or before the end of the bytes.
+-- Whether the rest of a tape ends inside its first record: inside the length, or before the end of the record's bytes.
 unfoldable pub ends_inside : List ℕ → Bool
 ends_inside rest = nat_lt 0 (length rest) && (nat_lt (length rest) 4 || nat_lt (length rest) (4 + big_number 4 rest))
 
--- The tape is cut at a byte: these whole records stand before it, and the tape ends inside the record that begins there.
+-- The tape is cut at a byte: before it are these whole records, and the tape ends inside the record that begins there.
 pub record IsCutTape (bytes : List ℕ) (records : List (List ℕ)) (at : ℕ) : Type 0 where
   pub before : IsTape (take at bytes) records
   pub cut : IsTrue (ends_inside (drop at bytes))
 
--- What a tape holds: its whole records, and the byte at which it is cut, if it is.
+-- What a tape holds: its whole records, and the byte at which it is cut, if it is cut.
 pub record TapeRead : Type 0 where
   pub records : List (List ℕ)
   pub cut : Option ℕ
 
--- A record, and then what is read behind it.
+-- A record, followed by what is read after it.
 abbrev pub with_record : List ℕ → TapeRead → TapeRead
 with_record r read = record { records = r ∷ read.records; cut = read.cut }
 
--- What is left of a tape from byte `at` on holds, where it has n bytes at most.
+-- What the rest of a tape from byte `at` on holds, if it has at most n bytes.
 unfoldable pub read_from : ℕ → ℕ → List ℕ → TapeRead
 read_from zero at rest = record { records = []; cut = None }
 read_from (suc n) at rest =

@@ -1,5 +1,5 @@
-//! The laws of what a history airs: which buckets are its own, so that a heard list of them, lost, repeated and
-//! reordered as it may be, is aired by it; and that they have bytes, which are read back.
+//! The laws of what a history airs: which buckets are its own, and that these have bytes, which are read back. A heard list of
+//! them is aired by the history, even if buckets are lost, repeated or reordered.
 //!
 //! Each function's contract is one law of the definitions in `specs/Aired.antt`; the bodies are empty.
 
@@ -17,19 +17,19 @@ pub fn own_buckets_law()
         Contains (buckets_of values air H) b ↔ (IsTrue (fits air b) × IsAiredBucket values air H b × (b.version ≡ air.version)) }
 {}
 
-/// What comes after a history changes no bucket of a cycle that it started: so cycles can be aired while it grows.
+/// What comes after a history changes no bucket of a cycle that it started, so cycles can be aired while the history grows.
 pub fn later_law()
     ensures { (values : List ℕ) (air : Air) (H later : List Event) (v c s : ℕ) → c ≤ starts H →
         bucket_of values air (H ++ later) v c s ≡ bucket_of values air H v c s }
 {}
 
-/// The buckets of a history that can be aired are in range, so that they have bytes.
+/// The buckets of a history that can be aired are in range, so they have bytes.
 pub fn range_law()
     ensures { (deck : Deck) (H : List Event) → CanAir deck H →
         All IsInRange (buckets_of (values_in deck) (air_of deck) H) }
 {}
 
-/// A heard list of the bytes of such buckets is aired by the history, and none is refused.
+/// A heard list of the bytes of such buckets is aired by the history, and no member is refused.
 pub fn bytes_law()
     ensures { (deck : Deck) (H : List Event) (heard : List (List ℕ)) → CanAir deck H →
         All (Contains (map spelling (buckets_of (values_in deck) (air_of deck) H))) heard →

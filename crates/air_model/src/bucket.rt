@@ -1,6 +1,6 @@
 //! Why bytes are no bucket, and the laws of the bucket's bytes.
 //!
-//! `specs/Buckets.antt` has the words: the spelling, the relation and the reading. The codec stands on them.
+//! `specs/Buckets.antt` has the definitions: the spelling, the relation and the reading. The codec depends on them.
 
 ghost use Rattle.std.specs.Prelude.{◌≡◌, ◌↔◌, ℕ, List, [], ◌++◌, Ok};
 ghost use Rattle.air_model.specs.Buckets.{AreBytes, Bucket, IsBucket, reading};
@@ -42,12 +42,12 @@ impl fmt::Display for BucketFault {
 
 impl Error for BucketFault {}
 
-/// Bytes are a bucket exactly if that bucket is read from them. So a fault is found exactly if they are none.
+/// Bytes are a bucket if and only if that bucket is read from them. So a fault is found if and only if they are no bucket.
 pub fn reading_law()
     ensures { (bytes : List ℕ) (b : Bucket) → AreBytes bytes → IsBucket bytes b ↔ (reading bytes ≡ Ok b) }
 {}
 
-/// Bytes are one bucket at most.
+/// Bytes are at most one bucket.
 pub fn one_bucket_law()
     ensures { (bytes : List ℕ) (a b : Bucket) → IsBucket bytes a → IsBucket bytes b → a ≡ b }
 {}

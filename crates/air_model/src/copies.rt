@@ -1,31 +1,31 @@
-//! The laws of kept copies: how many stay, which one goes, and that no choice is worth more.
+//! The laws of kept copies: how many stay, which one is dropped, and that no choice has a greater sum.
 //!
-//! `specs/Copies.antt` has the words. The cache and the session of a receiver stand on them.
+//! `specs/Copies.antt` has the definitions. The cache and the session of a receiver depend on them.
 
 ghost use Rattle.std.specs.Prelude.{◌≡◌, ◌≢◌, ℕ, ◌≤◌, min, List, ◌∷◌, ◌++◌, length, sum_by, All, AllPairs, IsTrue, IsPermutation};
 ghost use Rattle.air_model.specs.Reads.{Read};
 ghost use Rattle.air_model.specs.Copies.{HaveOwnItems, goes_before, keep, pix_of, with_copy};
 
-/// Copies stay by rising item number when a new one comes.
+/// When a new copy comes, the copies stay by rising item number.
 pub fn keep_own_law()
     ensures { (room : ℕ) (pix : List ℕ) (copies : List Read) (x : Read) → HaveOwnItems copies →
         HaveOwnItems (keep room pix (with_copy x copies)) }
 {}
 
-/// Where there is room for all copies, all stay.
+/// If there is room for all copies, all stay.
 pub fn keep_all_law()
     ensures { (room : ℕ) (pix : List ℕ) (copies : List Read) → length copies ≤ room →
         keep room pix copies ≡ copies }
 {}
 
-/// Where there is one copy too many, that one goes before which all others go.
+/// If there is one copy too many, the one that comes last in the order is dropped.
 pub fn keep_one_law()
-    ensures { (room : ℕ) (pix : List ℕ) (front back : List Read) (least : Read) →
-        length (front ++ back) ≡ room → All (λ r. IsTrue (goes_before pix r least)) (front ++ back) →
-        keep room pix (front ++ least ∷ back) ≡ front ++ back }
+    ensures { (room : ℕ) (pix : List ℕ) (before behind : List Read) (least : Read) →
+        length (before ++ behind) ≡ room → All (λ r. IsTrue (goes_before pix r least)) (before ++ behind) →
+        keep room pix (before ++ least ∷ behind) ≡ before ++ behind }
 {}
 
-/// Of copies of different items as many stay as there is room for, or all where these are fewer.
+/// Of copies of different items, as many stay as there is room for, or all if there are fewer.
 pub fn keep_count_law()
     ensures { (room : ℕ) (pix : List ℕ) (copies : List Read) → AllPairs (λ a b. a.item ≢ b.item) copies →
         length (keep room pix copies) ≡ min room (length copies) }

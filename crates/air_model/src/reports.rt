@@ -1,7 +1,7 @@
-//! The lines of a report beside its history: verdicts, counts, and what monitors saw.
+//! The lines of a report apart from its history: verdicts, counts, and what monitors saw.
 //!
-//! Plain data with public fields. Each line has the number of its reader or its monitor, so it says by itself what it
-//! tells. `specs/Reports.antt` has the row of each, and what the sessions of readers tell as such lines.
+//! Plain data with public fields. Each line has the number of its reader or its monitor, so it can be understood alone.
+//! `specs/Reports.antt` has the row of each, and what the sessions of readers tell as such lines.
 
 use air_base::{Counts, Reads, Verdict};
 

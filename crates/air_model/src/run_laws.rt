@@ -1,4 +1,5 @@
-//! The laws of runs: from what the passes of a closed station saw to a whole history, what it airs, and what its monitors saw.
+//! The laws of runs: they lead from what the passes of a closed station saw to a whole history, what it airs, and what its
+//! monitors saw.
 //!
 //! Each function's contract is one law of the definitions of `specs/` and of `air_model`; the bodies are empty, and no code runs.
 
@@ -15,7 +16,7 @@ ghost use Rattle.air_model.specs.Batches.{AirsByBatches, EndsWithStart, events_i
 ghost use Rattle.air_model.specs.RunClosings.{HaveMadeAll, HaveMadeSome, IsClosing};
 ghost use Rattle.air_model.specs.MonitorSights.{EndsAtStart, IsSeen};
 
-/// Where each pass made a beginning of its updates, the history of the closed station is legal; and it has the conductor's starts.
+/// If each pass made the first of its updates, the history of the closed station is legal, and it has the conductor's starts.
 pub fn legal_closing_law()
     ensures legal { (deck : Deck) (passes : List (List Event)) (conductor H : List Event) →
         IsClosing deck passes conductor H → HaveMadeSome deck passes → IsLegal deck H }
@@ -23,7 +24,7 @@ pub fn legal_closing_law()
         IsClosing deck passes conductor H → starts H ≡ starts conductor }
 {}
 
-/// Where each pass made all its updates and the conductor all cycles, the history of the closed station is whole.
+/// If each pass made all its updates and the conductor all cycles, the history of the closed station is whole.
 pub fn whole_closing_law()
     ensures { (deck : Deck) (passes : List (List Event)) (conductor H : List Event) →
         IsClosing deck passes conductor H → HaveMadeAll deck passes → starts conductor ≡ deck.settings.cycles → IsWhole deck H }
@@ -35,7 +36,7 @@ pub fn whole_beyond_law()
         (later : List Event) × IsWhole deck (H ++ later) }
 {}
 
-/// What comes after a history airs only more buckets, and none where it starts no cycle.
+/// What comes after a history only airs more buckets, and airs nothing if it starts no cycle.
 pub fn more_buckets_law()
     ensures more { (values : List ℕ) (air : Air) (H later : List Event) →
         (more : List Bucket) × (buckets_of values air (H ++ later) ≡ buckets_of values air H ++ more) }
@@ -43,13 +44,13 @@ pub fn more_buckets_law()
         buckets_of values air (H ++ later) ≡ buckets_of values air H }
 {}
 
-/// Batches that each end with their one start air the history that they make, whatever comes behind them without a start.
+/// If batches each end with their one start, they air the history that they make, also with events after it that have no start.
 pub fn batches_law()
     ensures { (deck : Deck) (batches : List (List Event)) (rest : List Event) → All EndsWithStart batches → starts rest ≡ 0 →
         AirsByBatches deck (events_in batches ++ rest) batches }
 {}
 
-/// A line with the frame of a beginning of a history, which ends at a start, shows a cycle of the history and its total.
+/// A line with the frame of a beginning of a history, which ends with a start, shows a cycle of the history and its total.
 pub fn frame_law()
     ensures { (values : List ℕ) (G later : List Event) (line : LookLine) → EndsAtStart G →
         line.cycle ≡ (frame_of values G).cycle → line.total ≡ (frame_of values G).total → IsSeen values (G ++ later) line }

@@ -1,5 +1,5 @@
-//! The laws of sessions: both judges give one session of a list that a history aired; what each line tells; settling
-//! comes to an end; lines are only added; dozing only counts; and what a deck's readers tell.
+//! The laws of sessions: both judges give one session of a list that a history aired; what each line tells; settling ends;
+//! lines are only added; dozing only counts; and what a deck's readers tell.
 //!
 //! Each function's contract is one law of the definitions in `Judges` and `Sessions` of `specs/`; the bodies are empty.
 
@@ -13,7 +13,7 @@ ghost use Rattle.air_model.specs.Decks.{Deck, IsDeck, values_in};
 ghost use Rattle.air_model.specs.Aired.{scheme_in, Air, IsAired, SlotsFit, air_of};
 ghost use Rattle.air_model.specs.AiredLaws.{CanAir};
 ghost use Rattle.air_model.specs.Judges.{Judge, by_entries, by_history};
-ghost use Rattle.air_model.specs.Sessions.{Line, Reader, State, copy_of, end_query, hear, session, settle, turn, wanted};
+ghost use Rattle.air_model.specs.Sessions.{Reader, SessionLine, State, copy_of, end_query, hear, session, settle, turn, wanted};
 ghost use Rattle.air_model.specs.SessionLaws.{CyclesFromOne, IsExactLine, IsOfReader, IsSoundLine, IsUnwanted, NamesHeld, QueriesFilled, after, bare, dozed_through, hear_each, newest_of};
 ghost use Rattle.air_model.specs.ReceiverLaws.{IsTrueSession};
 ghost use Rattle.air_model.specs.Outputs.{ether_of, sessions_over, true_sessions};
@@ -25,7 +25,7 @@ pub fn judges_law()
         session (by_history air.scheme values H) air reader heard ≡ session (by_entries air.scheme) air reader heard }
 {}
 
-/// By the history a session is the same over bare buckets: no column, no vector and no heard value is looked at.
+/// By the history a session is the same over bare buckets: it uses no column, no vector and no heard value.
 pub fn bare_law()
     ensures { (values : List ℕ) (air : Air) (H : List Event) (reader : Reader) (heard : List (Option Bucket)) →
         let s = session (by_history air.scheme values H) air reader heard in
@@ -33,39 +33,39 @@ pub fn bare_law()
         (t.lines ≡ s.lines) × (t.counts ≡ s.counts) }
 {}
 
-/// Every line that the history judges is sound, over every heard list: its reads are consistent and share the policy's
-/// cycle, and its values are those that their updates leave when they run alone.
+/// Every line by the history is sound, for every heard list: its reads are consistent and share the policy's cycle, and its
+/// values are those that their updates give when they run alone.
 pub fn sound_law()
     ensures { (values : List ℕ) (air : Air) (H : List Event) (reader : Reader) (heard : List (Option Bucket)) →
         QueriesFilled reader → CyclesFromOne air heard →
         All (IsSoundLine values air.scheme.policy H) (session (by_history air.scheme values H) air reader heard).lines }
 {}
 
-/// Every verdict of the history under F-Matrix is exact, over every heard list: an attempt is aged exactly if its reads lie
-/// too far apart for the air's version; else a query is accepted exactly if its reads are whole and consistent, and aborted
-/// exactly if they are not consistent.
+/// Every verdict by the history under F-Matrix is exact, for every heard list. An attempt is aged if and only if its reads are
+/// too far apart for the air's version. Otherwise a query is accepted if and only if its reads are whole and consistent, and
+/// aborted if and only if they aren't consistent.
 pub fn exact_law()
     ensures { (values : List ℕ) (air : Air) (H : List Event) (reader : Reader) (heard : List (Option Bucket)) →
         air.scheme.policy ≡ FMatrix → QueriesFilled reader → CyclesFromOne air heard →
         All (IsExactLine air.version H reader) (session (by_history air.scheme values H) air reader heard).lines }
 {}
 
-/// Both judges name a held read where a new one clashes.
+/// If a new read clashes, both judges name a held read.
 pub fn names_law()
     ensures { (scheme : Scheme) (values : List ℕ) (H : List Event) →
         NamesHeld (by_history scheme values H) × NamesHeld (by_entries scheme) }
 {}
 
-/// Every line is the reader's, by each judge that names held reads and over every heard list: its query, its attempt and
-/// its reads.
+/// Every line is the reader's, by each judge that names held reads and for every heard list: its query, its attempt and its
+/// reads.
 pub fn reader_law()
     ensures { (judge : Judge) (air : Air) (reader : Reader) (heard : List (Option Bucket)) →
         NamesHeld judge → QueriesFilled reader → 1 ≤ reader.plan.tries →
         All (IsOfReader reader) (session judge air reader heard).lines }
 {}
 
-/// After settling the wanted item has no copy, and a turn more makes no difference: so to settle is to take turns as
-/// long as the wanted item has a copy.
+/// After settling, the wanted item has no copy, and one more turn changes nothing. So settling is taking turns as long as the
+/// wanted item has a copy.
 pub fn settle_law()
     ensures settled { (judge : Judge) (air : Air) (reader : Reader) (s : State) →
         copy_of (wanted reader (settle judge air reader s)) (settle judge air reader s) ≡ None }
@@ -75,20 +75,19 @@ pub fn settle_law()
         settle judge air reader (turn judge air reader s) ≡ settle judge air reader s }
 {}
 
-/// Lines are only added at the end, and none is looked at: so each may be handed out as it comes.
+/// Lines are only added at the end, and no rule looks at them, so each line may be handed out as it comes.
 pub fn lines_law()
-    ensures turning { (judge : Judge) (air : Air) (reader : Reader) (L : List Line) (s : State) →
+    ensures turning { (judge : Judge) (air : Air) (reader : Reader) (L : List SessionLine) (s : State) →
         turn judge air reader (after L s) ≡ after L (turn judge air reader s) }
-    ensures settling { (judge : Judge) (air : Air) (reader : Reader) (L : List Line) (s : State) →
+    ensures settling { (judge : Judge) (air : Air) (reader : Reader) (L : List SessionLine) (s : State) →
         settle judge air reader (after L s) ≡ after L (settle judge air reader s) }
-    ensures hearing { (judge : Judge) (air : Air) (reader : Reader) (L : List Line) (s : State) (o : Option Bucket) →
+    ensures hearing { (judge : Judge) (air : Air) (reader : Reader) (L : List SessionLine) (s : State) (o : Option Bucket) →
         hear judge air reader o (after L s) ≡ after L (hear judge air reader o s) }
-    ensures ending { (judge : Judge) (air : Air) (reader : Reader) (L : List Line) (s : State) →
+    ensures ending { (judge : Judge) (air : Air) (reader : Reader) (L : List SessionLine) (s : State) →
         end_query judge air reader (after L s) ≡ after L (end_query judge air reader s) }
 {}
 
-/// All that a settled receiver does with buckets that it doesn't want is to count them, and to note the newest cycle. It stays
-/// settled.
+/// Buckets that a settled receiver doesn't want are only counted, and the newest cycle is noted. The receiver stays settled.
 pub fn doze_law()
     ensures counts { (judge : Judge) (air : Air) (reader : Reader) (buckets : List Bucket) (s : State) →
         copy_of (wanted reader s) s ≡ None → All (IsUnwanted air reader s) buckets →
@@ -98,14 +97,15 @@ pub fn doze_law()
         let t = hear_each judge air reader buckets s in copy_of (wanted reader t) t ≡ None }
 {}
 
-/// Wherever a history aired what a reader of a well made deck heard, its session is true. The history needn't be the deck's.
+/// If some history aired what a reader of a well made deck heard, its session is true. The history doesn't have to be the
+/// deck's.
 pub fn receiver_law()
     ensures { (deck : Deck) (H : List Event) (r : ℕ) (heard : List (Option Bucket)) →
         IsDeck deck → r < length deck.readers → IsAired (values_in deck) (air_of deck) H heard →
         IsTrueSession deck H r heard }
 {}
 
-/// Readers that hear a history through their ethers, and judge by the entries, have the sessions that it judges.
+/// Readers that hear a history through their ethers, and judge by the entries, have the sessions that the history gives.
 pub fn true_sessions_law()
     ensures { (deck : Deck) (H : List Event) → CanAir deck H →
         sessions_over (by_entries (scheme_in deck)) deck (ether_of deck H) ≡ true_sessions deck H }

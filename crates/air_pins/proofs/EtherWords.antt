@@ -5,12 +5,12 @@ use Rattle.air_model.specs.Ethers.{Odds}
 use Rattle.air_ether.specs.HeardSoFar.{Ether, due_of}
 use Rattle.air_pins.specs.SmallEthers.{HasGiven}
 
--- What is due of the ether is what is due at the odds that it has.
+-- What is due of the ether is what is due for the odds that it has.
 due_is : (seed : ℕ) (odds : Odds) (pushed : List (List ℕ)) (given : ℕ) (ended : Bool) (e : Ether) → HasGiven seed odds pushed given ended e →
     due_of seed 0 e.odds pushed e.ended ≡ due_of seed 0 odds pushed ended
 due_is seed odds pushed given ended e g = ap (λ o. due_of seed 0 o pushed e.ended) g.odds_are ∙ ap (λ t. due_of seed 0 odds pushed t) g.told
 
--- A bucket is given where one more is due.
+-- If one more bucket is due, it is given.
 pub next_gives : (seed : ℕ) (odds : Odds) (pushed : List (List ℕ)) (given : ℕ) (ended : Bool) (e : Ether) (r : Option (Bor (List ℕ))) (due : List (List ℕ)) (b : List ℕ) →
     HasGiven seed odds pushed given ended e → due_of seed 0 odds pushed ended ≡ due → slice_get due given ≡ Some b → (given ≡ length due → ⊥) →
     MatchOption r (given ≡ length (due_of seed 0 e.odds pushed e.ended)) (λ x. slice_get (due_of seed 0 e.odds pushed e.ended) given ≡ Some x.now) →
@@ -19,7 +19,7 @@ next_gives seed odds pushed given ended e None due b g is at more h = more (h �
 next_gives seed odds pushed given ended e (Some x) due b g is at more h =
     let here = sym h ∙ ap (λ d. slice_get d given) (due_is seed odds pushed given ended e g ∙ is) ∙ at in cc
 
--- No bucket is given where no further one is due.
+-- If no further bucket is due, None is given.
 pub next_gives_none : (seed : ℕ) (odds : Odds) (pushed : List (List ℕ)) (given : ℕ) (ended : Bool) (e : Ether) (r : Option (Bor (List ℕ))) →
     HasGiven seed odds pushed given ended e → slice_get (due_of seed 0 odds pushed ended) given ≡ None →
     MatchOption r (given ≡ length (due_of seed 0 e.odds pushed e.ended)) (λ x. slice_get (due_of seed 0 e.odds pushed e.ended) given ≡ Some x.now) →

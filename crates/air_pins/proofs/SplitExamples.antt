@@ -1,4 +1,5 @@
--- Splits of decks of one disk, at the most slots that a program may have and one above, and lists of sizes that are no split.
+-- Splits of decks of one disk, with as many slots as a program may have and with one more, and lists of sizes that are no
+-- split.
 use Rattle.std.proofs.Common.{◌≡◌, ◌≤◌, ℕ, false, List, [], ◌∷◌, All, length, map, replicate, refl, sym, subst, ap, arith}
 use Rattle.std.proofs.lemmas.List.Elements.{All-cons, All-nil}
 use Rattle.std.proofs.lemmas.List.Sums.{sum_by-cons}
@@ -53,7 +54,7 @@ full_is_short = record { split = record { disks = refl; filled = some 4 (omega a
 not_all_too_long : AreAllTooLong full 16384 → ⊥
 not_all_too_long long = let above = long.above in omega (arith, above)
 
--- One more is too much, and it is told.
+-- One more is too many, and that number is reported.
 not_short : IsShortSplit too_full (5 ∷ []) → ⊥
 not_short short = let few = short.short in omega (arith, few, too_full_slots)
 
@@ -64,7 +65,7 @@ all_too_long = record {
   least = λ sizes split. let same = all_on_one 5 too_full sizes refl refl split in omega (arith, ap (slots_of too_full) same, too_full_slots);
 }
 
--- A list of other length, or of another sum, is no split.
+-- A list of another length, or with another sum, is no split.
 no_split : (IsSplit full (1 ∷ 3 ∷ []) → ⊥) × (IsSplit full (3 ∷ []) → ⊥)
 no_split = (λ split. let two = split.disks in omega (arith, two), λ split. let three = split.all in omega (arith, three))
 

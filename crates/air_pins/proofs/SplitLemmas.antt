@@ -48,11 +48,11 @@ pair deck (a ∷ b ∷ c ∷ sizes) two split = absurd (omega (arith, split.disk
 both_some : (a b : ℕ) → 1 ≤ a → 1 ≤ b → All (λ n. 1 ≤ n) (a ∷ b ∷ [])
 both_some a b one two = All-cons (λ n. 1 ≤ n) a (b ∷ []) one (All-cons (λ n. 1 ≤ n) b [] two (All-nil (λ n. 1 ≤ n)))
 
--- The first split costs less than the other, or as much and comes first.
+-- The first split costs less than the other, or it costs as much and comes first.
 abbrev IsBeaten : Deck → List ℕ → List ℕ → Type 0
 IsBeaten deck first other = (cost deck first < cost deck other) ⊎ ((cost deck first ≡ cost deck other) × (is_before first other ≡ true))
 
--- The other isn't the best, where the first is short.
+-- If the first split is short, the other isn't the best.
 beaten : (deck : Deck) (first other : List ℕ) → IsShortSplit deck first → IsBeaten deck first other → IsBest deck other → ⊥
 beaten deck first other short (inl less) best = let low = best.least first short in omega arith
 beaten deck first other short (inr (same, before)) best = let not = best.first first short same in cc
@@ -171,7 +171,7 @@ unrated_best sizes best = let p = pair unrated sizes refl best.short.split in by
 
 -- ---- longer splits
 
--- The slots of a split, by the deck's disks alone.
+-- The slots of a split, from only the deck's disks.
 slots_by : (deck : Deck) (disks : List DiskSpec) (sizes : List ℕ) → deck.disks ≡ disks → IsSplit deck sizes
     → slots_of deck sizes ≡ common_of disks * minor_from (map (λ (d : DiskSpec). common_of disks / d.freq) disks) sizes
 unfolding minors_in chunks_in
@@ -206,7 +206,7 @@ long_slots : common_of long * minor_from (map (λ (d : DiskSpec). common_of long
 unfolding least_common_multiple minor_from
 long_slots = refl
 
--- It is no reason to refuse the deck that its own program is too long.
+-- The deck isn't refused because its own program is too long.
 pub long_passes : (deck : Deck) → length deck.items ≡ 200 → deck.disks ≡ long → (e : SplitFault) → SaysTooMuch deck e → SaysTooLong deck e → e ≡ NoMemory
 long_passes deck items disks (TooMuch product) much all =
     let size : search_size deck ≡ 80000 = ap (λ n. n * n * length deck.disks) items ∙ ap (λ (l : List DiskSpec). 200 * 200 * length l) disks in
@@ -245,7 +245,7 @@ longer_least deck sizes items disks split = let p = pair deck sizes (ap length d
 pub longer_has_none : (deck : Deck) (sizes : List ℕ) → length deck.items ≡ 256 → deck.disks ≡ longer → IsBest deck sizes → ⊥
 longer_has_none deck sizes items disks best = let low = longer_least deck sizes items disks best.short.split in let fits = best.short.short in omega arith
 
--- It is refused by the least number of slots.
+-- It is refused with the least number of slots.
 pub longer_is_refused : (deck : Deck) → length deck.items ≡ 256 → deck.disks ≡ longer → (e : SplitFault) → SaysTooMuch deck e → SaysTooLong deck e → (e ≡ TooLong 20160) ⊎ (e ≡ NoMemory)
 longer_is_refused deck items disks (TooMuch product) much all =
     let size : search_size deck ≡ 131072 = ap (λ n. n * n * length deck.disks) items ∙ ap (λ (l : List DiskSpec). 256 * 256 * length l) disks in

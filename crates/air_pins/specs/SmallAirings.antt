@@ -17,12 +17,12 @@ two_item_board = record {
 abbrev pub in_cycle_2 : ℕ → ℕ → ℕ → Body → Bucket
 in_cycle_2 version edition slot body = record { version = version; edition = edition; cycle = 2; slot = slot; body = body }
 
--- The buckets of this version and edition of its cycle where item 0 comes twice, item 1 once, and one slot is idle.
+-- The buckets of this version and edition in the board's cycle: item 0 comes twice, item 1 once, and one slot is idle.
 abbrev pub four_buckets : ℕ → ℕ → List (List ℕ)
 four_buckets version edition = map spelling (
     in_cycle_2 version edition 0 (Column 0 11 (1 ∷ 0 ∷ [])) ∷ in_cycle_2 version edition 1 (Column 1 12 (1 ∷ 1 ∷ [])) ∷ in_cycle_2 version edition 2 (Column 0 11 (1 ∷ 0 ∷ []))
     ∷ in_cycle_2 version edition 3 (Idle 2) ∷ [])
 
--- These were sent, and no end.
+-- These buckets were sent, and no end.
 abbrev pub sent : List (List ℕ) → SentBuckets
 sent buckets = record { buckets = buckets; ended = None }

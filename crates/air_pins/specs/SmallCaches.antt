@@ -1,4 +1,4 @@
--- The pins of copies work with small caches, over as many items as there are PIX numbers.
+-- The pins of copies use small caches, for as many items as there are PIX numbers.
 use Rattle.std.specs.Prelude.{ℕ, List, [], ◌∷◌}
 use Rattle.air_model.specs.Reads.{Read}
 use Rattle.pix_cache.specs.Caches.{Cache, copy}

@@ -1,12 +1,12 @@
--- The pins of ethers work with small ones, of reader 0.
+-- The pins of ethers use small ones, of reader 0.
 --
--- The first words of seed 12 are 1370425950, 978885209, 847163202, 130869789, 1125954119 and 649016008: with all late the first
--- two pushes are due at 1 and 2.
+-- The first words of seed 12 are 1370425950, 978885209, 847163202, 130869789, 1125954119 and 649016008. If all are late, the
+-- first two pushes are due at 1 and 2.
 use Rattle.std.specs.Prelude.{◌≡◌, ℕ, Bool, List, [], ◌∷◌, codes}
 use Rattle.air_model.specs.Ethers.{Odds}
 use Rattle.air_ether.specs.HeardSoFar.{Ether, IsEtherAfter}
 
--- Of a hundred pushes these numbers are lost, heard again, and late.
+-- Of a hundred pushes, these numbers are lost, heard again, and late.
 abbrev pub odds : ℕ → ℕ → ℕ → Odds
 odds loss again late = record { loss = loss; again = again; late = late }
 
@@ -16,6 +16,6 @@ pub record HasGiven (seed : ℕ) (odds : Odds) (pushed : List (List ℕ)) (given
   pub follows : IsEtherAfter seed 0 pushed given e
   pub told : e.ended ≡ ended
 
--- Nine buckets. With seed 1910 and all late the first is due at 8, and the others later.
+-- Nine buckets. With seed 1910, if all are late, the first is due at 8, and the others later.
 abbrev pub nine : List (List ℕ)
 nine = codes "a" ∷ codes "b" ∷ codes "c" ∷ codes "d" ∷ codes "e" ∷ codes "f" ∷ codes "g" ∷ codes "h" ∷ codes "i" ∷ []

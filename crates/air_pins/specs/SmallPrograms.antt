@@ -1,4 +1,4 @@
--- The pins of programs and of the sender work with programs of two disks.
+-- The pins of programs and of the sender use programs of two disks.
 use Rattle.std.specs.Prelude.{ℕ, List, [], ◌∷◌}
 use Rattle.air_model.specs.Disks.{Disk, DiskSpec}
 use Rattle.air_model.specs.Decks.{Replan}

@@ -1,4 +1,4 @@
--- The pins of splits work with decks that have these rates and disks, and nothing else that matters.
+-- The pins of splits use decks that have these rates and disks, and nothing else that matters.
 use Rattle.std.specs.Prelude.{ℕ, List, [], ◌∷◌, ◌++◌, map, replicate}
 use Rattle.air_base.specs.declared.verdicts.Policy.TheVariants.{FMatrix}
 use Rattle.air_model.specs.Decks.{Deck}
@@ -30,6 +30,6 @@ six = rated (2 ∷ 0 ∷ 3 ∷ 3 ∷ 4 ∷ 4 ∷ []) (spec 5 1 ∷ spec 1 2 ∷ 
 abbrev pub unrated : Deck
 unrated = rated (0 ∷ 0 ∷ 0 ∷ []) (spec 2 2 ∷ spec 1 1 ∷ [])
 
--- The rates of 256 items of which only the last isn't asked for.
+-- The rates of 256 items, of which only the last has the rate 0.
 abbrev pub but_the_last : List ℕ
 but_the_last = replicate 255 1000000 ++ 0 ∷ []

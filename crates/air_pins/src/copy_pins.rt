@@ -1,5 +1,5 @@
-//! These pins of `pix_cache` say what a reader keeps of two or three items: which copy is kept, which one goes, and what is
-//! lent. The copy of least PIX number goes first.
+//! These pins of `pix_cache` say what a reader keeps of two or three items: which copy is kept, which one is dropped, and what
+//! is lent. The copy with the least PIX number is dropped first.
 #![tactic(auto, unfolding(air_model::specs::Copies::keep, air_model::specs::Copies::with_copy, air_model::specs::Copies::without_item, pix_cache::specs::Caches::copy_among))]
 
 ghost use Rattle.std.specs.Prelude.{◌≡◌, [], ◌∷◌, MatchOption};
@@ -7,7 +7,7 @@ ghost use Rattle.air_pins.specs.SmallCaches.{cache, of_two, of_three};
 
 use pix_cache::{KeepAnswer, Kept, PixCache};
 
-/// A newcomer of lesser PIX number than the copy isn't kept where there is no room.
+/// A newcomer with a lesser PIX number than the copy isn't kept if there is no room.
 pub fn cache_always_places(copies: &mut PixCache, column: &[u32]) -> KeepAnswer
     requires copies { copies.old ≡ cache 1 (5 ∷ 1 ∷ []) (of_two 0 2 ∷ []) }
     requires column { column.now ≡ 0 ∷ 0 ∷ [] }
@@ -43,7 +43,7 @@ pub fn evicted_copy_stays(copies: &mut PixCache, column: &[u32]) -> KeepAnswer
     copies.keep(1, 3, 70, column)
 }
 
-/// The copy of least PIX number goes, and it is named. It also refuses that the newcomer is named for it.
+/// The copy with the least PIX number is dropped, and the answer names it. It also refuses that the newcomer is named instead.
 pub fn greatest_goes(copies: &mut PixCache, column: &[u32]) -> KeepAnswer
     requires copies { copies.old ≡ cache 2 (1 ∷ 5 ∷ 3 ∷ []) (of_three 0 2 ∷ of_three 1 2 ∷ []) }
     requires column { column.now ≡ 0 ∷ 0 ∷ 0 ∷ [] }
@@ -53,7 +53,8 @@ pub fn greatest_goes(copies: &mut PixCache, column: &[u32]) -> KeepAnswer
     copies.keep(2, 3, 70, column)
 }
 
-/// After a change of the PIX numbers an offer goes by the new ones. These are two calls, since the first shows in the second alone.
+/// After a change of the PIX numbers an offer is decided by the new ones. These are two calls, since the effect of the first
+/// shows only in the second.
 pub fn reorder_keeps_old_numbers(copies: &mut PixCache, pix: &[u64], column: &[u32]) -> KeepAnswer
     requires copies { copies.old ≡ cache 1 (1 ∷ 3 ∷ []) (of_two 0 2 ∷ []) }
     requires pix { pix.now ≡ 5 ∷ 3 ∷ [] }
@@ -75,7 +76,7 @@ pub fn replaced_keeps_its_old_cycle(copies: &mut PixCache, column: &[u32]) -> Ke
     copies.keep(0, 3, 70, column)
 }
 
-/// Of two items of one PIX number that of smaller number stays.
+/// Of two items with one PIX number, the one with the smaller item number stays.
 pub fn smaller_item_goes_among_equals(copies: &mut PixCache, column: &[u32]) -> KeepAnswer
     requires copies { copies.old ≡ cache 1 (4 ∷ 4 ∷ []) (of_two 0 2 ∷ []) }
     requires column { column.now ≡ 0 ∷ 0 ∷ [] }

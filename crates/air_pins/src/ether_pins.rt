@@ -11,8 +11,8 @@ use air_base::NoMemory;
 use air_ether::Ether;
 use std::alloc::Global;
 
-/// When the second push is made, the first one, which is late, is due with its own bucket. It also refuses that it is due one push
-/// later.
+/// When the second push is made, the first one, which is late, is due with its own bucket. It also refuses that it is due one
+/// push later.
 pub fn bucket_of_another_place(ether: &mut Ether) -> Option<&[u8]>
     requires { HasGiven 12 (odds 0 0 100) (codes "a" ∷ codes "b" ∷ []) 0 false ether.old }
     ensures { MatchOption result ⊥ (λ bytes. bytes.now ≡ codes "a") }
@@ -28,7 +28,7 @@ pub fn copies_apart(ether: &mut Ether) -> Option<&[u8]>
     ether.next()
 }
 
-/// The first of nine pushes is heard eight pushes later, as the last one is made.
+/// The first of nine pushes is heard eight pushes later, when the last one is made.
 pub fn eight_rooms_for_nine(ether: &mut Ether) -> Option<&[u8]>
     requires { HasGiven 1910 (odds 0 0 100) nine 0 false ether.old }
     ensures { MatchOption result ⊥ (λ bytes. bytes.now ≡ codes "a") }
@@ -36,7 +36,7 @@ pub fn eight_rooms_for_nine(ether: &mut Ether) -> Option<&[u8]>
     ether.next()
 }
 
-/// After the end what waits is heard too.
+/// What waits is heard after the end too.
 pub fn end_drops_what_waits(ether: &mut Ether) -> Option<&[u8]>
     requires { HasGiven 12 (odds 0 0 100) (codes "a" ∷ []) 0 true ether.old }
     ensures { MatchOption result ⊥ (λ bytes. bytes.now ≡ codes "a") }

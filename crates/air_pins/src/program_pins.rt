@@ -15,7 +15,7 @@ use chunk_program::{Cut, PlanFault, Planned, Plans, Program, cut};
 use item_catalog::Deck;
 use std::alloc::Global;
 
-/// The deck that is planned is the one that was handed in, here with three items on two disks.
+/// The deck that is planned is the given one, here with three items on two disks.
 pub fn another_deck_planned(alloc: Global, deck: Deck) -> Result<Planned, PlanFault>
     requires rates { rates_in deck ≡ 5 ∷ 5 ∷ 9 ∷ [] }
     requires disks { deck.disks ≡ spec 1 2 ∷ spec 2 1 ∷ [] }
@@ -56,7 +56,7 @@ pub fn edition_begins_one_cycle_late(plans: &Plans) -> u32
     plans.edition_at(5)
 }
 
-/// The cycle before a replan's still has the edition before.
+/// The cycle before a replan's still has the earlier edition.
 pub fn edition_begins_one_cycle_early(plans: &Plans) -> u32
     requires { plans.now.replans ≡ 2 ∷ 5 ∷ [] }
     ensures { result ≡ 1 }
@@ -90,7 +90,7 @@ pub fn pix_forgets_the_chunks(program: &Program) -> u64
     program.pix(1, 5)
 }
 
-/// A planned deck whose editions have just as many slots as there may be isn't too long.
+/// A planned deck whose editions have exactly as many slots as allowed isn't too long.
 pub fn planned_too_long_from_the_limit_on(alloc: Global, deck: Deck) -> Result<Planned, PlanFault>
     requires { (e : ℕ) → e < count_editions deck → length (program (disks_in deck e)) ≡ MOST_SLOTS }
     ensures { IfErr result (λ e. e ≡ fault.NoMemory) }
@@ -98,7 +98,7 @@ pub fn planned_too_long_from_the_limit_on(alloc: Global, deck: Deck) -> Result<P
     Planned::new(alloc, deck)
 }
 
-/// There are as many minor cycles as the least common multiple says.
+/// The number of minor cycles is the least common multiple of the frequencies.
 pub fn product_for_the_common_multiple(program: &Program) -> u32
     requires { program.now.disks ≡ two_and_four }
     ensures { result ≡ 4 }
@@ -115,8 +115,8 @@ pub fn program_of_another_deck(planned: &Planned) -> &Program
     planned.program(0)
 }
 
-/// Items are ordered by their own rates, and of two with one rate that of smaller number comes first. It also refuses that the one
-/// of greater number does.
+/// Items are ordered by their own rates, and of two with one rate the one with the smaller number comes first. It also refuses
+/// that the one with the greater number does.
 pub fn rate_of_another_item(alloc: Global, deck: &Deck) -> Result<Cut, NoMemory>
     requires rates { rates_in deck.now ≡ 5 ∷ 5 ∷ 9 ∷ [] }
     requires disks { deck.now.disks ≡ spec 1 2 ∷ spec 2 1 ∷ [] }
@@ -125,7 +125,7 @@ pub fn rate_of_another_item(alloc: Global, deck: &Deck) -> Result<Cut, NoMemory>
     cut(alloc, deck, 0)
 }
 
-/// A program of just as many slots as there may be isn't too long.
+/// A program with exactly as many slots as allowed isn't too long.
 pub fn too_long_from_the_limit_on(
     alloc: Global,
     deck: &Deck,
@@ -138,7 +138,7 @@ pub fn too_long_from_the_limit_on(
     Program::plan(alloc, deck, cut, 0)
 }
 
-/// Of two editions that are too long the first is told.
+/// Of two editions that are too long, the first is reported.
 pub fn too_long_told_of_the_greatest_edition(alloc: Global, deck: &Deck) -> Result<Plans, PlanFault>
     requires replans { length deck.now.replans ≡ 2 }
     requires own { length (program (disks_in deck.now 0)) ≡ 3 }
@@ -149,7 +149,7 @@ pub fn too_long_told_of_the_greatest_edition(alloc: Global, deck: &Deck) -> Resu
     Plans::plan(alloc, deck)
 }
 
-/// A slot that carries the item is awaited no longer.
+/// The wait from a slot that carries the item is 0.
 pub fn wait_is_never_zero(program: &Program) -> u32
     requires { program.now.disks ≡ four_slots }
     ensures { result ≡ 0 }

@@ -1,4 +1,4 @@
-//! These pins of `air_sender` say what a cycle of four slots sends, to any mast and to one that gathers a tape.
+//! These pins of `air_sender` say what a cycle of four slots sends, to any mast and to one that collects a tape.
 //!
 //! The program's slots carry the items 0, 1, 0 and none, and from a replan on the items 0 and 1; the board is in cycle 2.
 #![tactic(auto, unfolding(air_model::specs::Disks::all_items, air_model::specs::Programs::least_common_multiple, air_model::specs::Programs::num_minors, air_model::specs::Programs::num_chunks, air_model::specs::Programs::chunk_len, air_model::specs::Programs::chunk, air_model::specs::Programs::minor_cycle, air_model::specs::Programs::program, air_model::specs::Tapes::record_bytes, air_model::specs::Tapes::tape_of, air_sender::specs::BoardBuckets::body_on, air_sender::specs::BoardBuckets::bucket_on, air_model::specs::Buckets::capped_body, air_model::specs::Buckets::capped_entries, air_history::specs::Ages::capped))]
@@ -28,9 +28,9 @@ const AGES: Form = Form {
     version: 2,
 };
 
-/// Where no send failed the mast got the bucket of each slot, idle ones too, once and with its number; each has the board's cycle, and
-/// its item's own value and column. It also refuses idle slots that are skipped, a slot that is sent twice, slots that are counted from one, the
-/// cycle before, the value of another item, and that a failed send is passed over.
+/// If no send failed, the mast got the bucket of each slot, idle ones too, once and with its number; each has the board's
+/// cycle, and its item's own value and column. It also refuses idle slots that are skipped, a slot that is sent twice, slots
+/// that are counted from one, the cycle before, the value of another item, and that a failed send is ignored.
 pub fn column_of_another_item(
     program: &Program,
     board: &Board,
@@ -46,7 +46,7 @@ pub fn column_of_another_item(
     air_cycle(program, board, COLUMNS, mast, buf)
 }
 
-/// In the form of version 2 the buckets are of version 2, also from a buffer that has no room for the others.
+/// In the form of version 2 the buckets are of version 2, also from a buffer that has no room for those of version 1.
 pub fn version_1_whatever_the_form(
     program: &Program,
     board: &Board,
@@ -62,8 +62,9 @@ pub fn version_1_whatever_the_form(
     air_cycle(program, board, AGES, mast, buf)
 }
 
-/// At a fault there was a mast, just before the send of the slot that is named, by which the buckets of the slots before had been
-/// sent and no call had failed. Then its count rose, and what it tells stayed. Where a slot was sent again there is no such mast.
+/// After a fault there is a state of the mast directly before the send of the named slot: the buckets of the slots before had
+/// been sent, and no call had failed. Since then the count went up, and what the mast tells is unchanged. If a slot was sent
+/// again, there is no such state.
 pub fn next_slot_blamed_after_a_second_try<M: Mast>(
     program: &Program,
     board: &Board,
@@ -97,7 +98,7 @@ pub fn edition_0_in_every_bucket(
     air_cycle(program, board, COLUMNS, mast, buf)
 }
 
-/// A record takes the bytes of its length too: 36 with an item, 28 without one.
+/// A record includes the bytes of its length: 36 bytes with an item, 28 without one.
 pub fn record_size_without_its_length(plans: &Plans) -> u64
     requires replans { plans.now.replans ≡ [] }
     requires programs { plans.now.programs ≡ in_edition 0 idle_slot ∷ [] }
@@ -106,7 +107,7 @@ pub fn record_size_without_its_length(plans: &Plans) -> u64
     tape_bytes(plans, 2, 3, COLUMNS)
 }
 
-/// In version 2 an entry takes one byte: a record has 30 with an item.
+/// In version 2 an entry takes one byte: a record with an item has 30 bytes.
 pub fn four_bytes_for_an_age(plans: &Plans) -> u64
     requires replans { plans.now.replans ≡ [] }
     requires programs { plans.now.programs ≡ in_edition 0 idle_slot ∷ [] }
@@ -115,7 +116,7 @@ pub fn four_bytes_for_an_age(plans: &Plans) -> u64
     tape_bytes(plans, 2, 3, AGES)
 }
 
-/// A cycle has the records of the edition in force: the first has 136 bytes, the two after the replan 72 each.
+/// A cycle has the records of the edition in force: the first has 136 bytes, the two after the replan have 72 each.
 pub fn length_by_the_first_edition_alone(plans: &Plans) -> u64
     requires replans { plans.now.replans ≡ 2 ∷ [] }
     requires programs { plans.now.programs ≡ in_edition 0 idle_slot ∷ in_edition 1 two_slots ∷ [] }

@@ -1,7 +1,7 @@
 //! These pins of `disk_split` say which sizes are best for decks of two disks, what they cost, and which decks are refused.
 //!
-//! The decks of 200 and of 256 items have disks of the frequencies 64 and 63 or 3, so some or all of their splits are too long. No deck has a
-//! search of exactly the limit, so the limit is pinned at `check_size`, by which `best_split` refuses.
+//! The decks of 200 and of 256 items have disks with the frequencies 64 and 63 or 3, so some or all of their splits are too
+//! long. No deck has a search of exactly the limit, so the limit is pinned at `check_size`, which `best_split` uses to refuse.
 
 ghost use Rattle.std.specs.Prelude.{◌≡◌, ◌⊎◌, [], ◌∷◌, length, IfErr, IfOk, IsErr};
 ghost use Rattle.air_model.specs.Decks.{rates_in};
@@ -13,7 +13,7 @@ use disk_split::{Split, SplitFault, best_split, check_size};
 use item_catalog::Deck;
 use std::alloc::Global;
 
-/// Each disk has one item or more, also where nothing costs anything.
+/// Each disk has at least one item, also if nothing costs anything.
 pub fn disk_that_takes_no_item(alloc: Global, deck: &Deck) -> Result<Split, SplitFault>
     requires { deck.now ≡ unrated }
     ensures sizes { IfOk result (λ split. split.sizes ≡ 1 ∷ 2 ∷ []) }
@@ -42,7 +42,7 @@ pub fn long_split_that_costs_less(alloc: Global, deck: &Deck) -> Result<Split, S
     best_split(alloc, deck)
 }
 
-/// The deck's own program has 20,160 slots, and the split 189 11 has 16,128: so the deck isn't refused.
+/// The deck's own program has 20,160 slots, and the split 189 11 has 16,128, so the deck isn't refused.
 pub fn own_slots_refused(alloc: Global, deck: &Deck) -> Result<Split, SplitFault>
     requires items { length deck.now.items ≡ 200 }
     requires disks { deck.now.disks ≡ spec 199 64 ∷ spec 1 63 ∷ [] }
@@ -51,7 +51,7 @@ pub fn own_slots_refused(alloc: Global, deck: &Deck) -> Result<Split, SplitFault
     best_split(alloc, deck)
 }
 
-/// The deck's own program has 24,192 slots, and each split has 20,160 or more: that number is told.
+/// The deck's own program has 24,192 slots, and each split has 20,160 or more: that number is reported.
 pub fn own_slots_told(alloc: Global, deck: &Deck) -> Result<Split, SplitFault>
     requires items { length deck.now.items ≡ 256 }
     requires disks { deck.now.disks ≡ spec 190 64 ∷ spec 66 63 ∷ [] }
@@ -61,14 +61,14 @@ pub fn own_slots_told(alloc: Global, deck: &Deck) -> Result<Split, SplitFault>
     best_split(alloc, deck)
 }
 
-/// A search over just as much as may be isn't too much.
+/// A search of exactly the limit isn't too much.
 pub fn too_much_from_the_limit_on() -> Result<(), SplitFault>
     ensures { IfErr result (λ e. ⊥) }
 {
     check_size(600_000)
 }
 
-/// A search over one more is too much, and its size is told.
+/// A search of one more is too much, and its size is reported.
 pub fn too_much_let_through() -> Result<(), SplitFault>
     ensures refused { IsErr result }
     ensures product { IfErr result (λ e. e ≡ fault.TooMuch 600_001) }
@@ -76,7 +76,8 @@ pub fn too_much_let_through() -> Result<(), SplitFault>
     check_size(600_001)
 }
 
-/// A cost is weighed with the chunks of each disk: without them the fewest slots, 1 4, would be best. It also refuses the deck's own sizes.
+/// A cost counts the chunks of each disk: without them the fewest slots, 1 4, would be best. It also refuses the deck's own
+/// sizes.
 pub fn weight_without_its_chunks(alloc: Global, deck: &Deck) -> Result<Split, SplitFault>
     requires { deck.now ≡ five }
     ensures sizes { IfOk result (λ split. split.sizes ≡ 3 ∷ 2 ∷ []) }

@@ -1,4 +1,4 @@
--- Reports at their ends: numbers of one bit too many, rows of each tag, sections one after another, and where faults stand.
+-- Reports at their ends: numbers of one bit too many, rows of each tag, sections one after another, and the places of faults.
 use Rattle.std.proofs.Common.{◌≡◌, ◌<◌, ◌≤◌, ◌^◌, ℕ, Some, None, List, [], ◌∷◌, length, refl, sym, ap, ◌∙◌, arith, length-append}
 use Rattle.std.specs.Prelude.{codes, map}
 use Rattle.std.proofs.lemmas.List.Elements.{All-from_recursion}
@@ -23,7 +23,7 @@ use Rattle.air_report.specs.declared.reading.kinds.ReportFaultKind.TheVariants a
 
 -- ---- widths
 
--- A read, a verdict's line, a line of counts, and what a monitor saw, of which a number may be too great.
+-- A read, a verdict's line, a line of counts, and what a monitor saw, each with a number that may be too great.
 abbrev read : ℕ → ℕ → ReadOf
 read item value = record { item = item; cycle = 1; value = value }
 
@@ -103,7 +103,7 @@ two_of_each = record {
 each_joined : joined one_of_each one_of_each ≡ two_of_each
 each_joined = refl
 
--- How many fields the rows of each tag have.
+-- The number of fields in the rows of each tag.
 abbrev tags : List (List ℕ)
 tags = codes "commit" ∷ codes "start" ∷ codes "accept" ∷ codes "abort" ∷ codes "unfinished" ∷ codes "counts" ∷ codes "glance" ∷ codes "look" ∷ codes "aged" ∷ []
 
@@ -111,7 +111,7 @@ each_tag : (map (λ tag. due_length 2 (tag ∷ [])) tags ≡ Some 3 ∷ Some 1 �
     × (map (λ tag. due_length 1 (tag ∷ [])) tags ≡ Some 3 ∷ Some 1 ∷ Some 5 ∷ Some 7 ∷ Some 5 ∷ Some 8 ∷ Some 4 ∷ Some 4 ∷ None ∷ [])
 each_tag = (refl, refl)
 
--- In a report with two lines of each section the verdicts stand in the rows 3 and 4, the glances in 7 and 8, the looks in 9 and 10.
+-- In a report with two lines of each section the verdicts are in rows 3 and 4, the glances in 7 and 8, the looks in 9 and 10.
 its_rows : (deck : Deck) (text : List ℕ) → SpellsReport deck text two_of_each
     → IsReportOf deck text (record { report = two_of_each; verdict_rows = 3 ∷ 4 ∷ []; glance_rows = 7 ∷ 8 ∷ []; look_rows = 9 ∷ 10 ∷ [] })
 its_rows deck text spelled = record { spelled = spelled; verdict_rows = refl; glance_rows = refl; look_rows = refl }
@@ -143,7 +143,7 @@ no_record deck text row kind none h =
     let more = length-append (report_rows h.before) (h.faulty ∷ h.behind) in
     omega arith
 
--- Behind three rows it stands in the fourth; its kind is that which is told, and is the least of those that apply.
+-- After three rows the fault is in the fourth; its kind is the given one, and is the least of those that apply.
 fourth_row : (deck : Deck) (text : List ℕ) (row kind : ℕ) (h : HasReportFault deck text row kind) → length (report_rows h.before) ≡ 3 → row ≡ 4
 fourth_row deck text row kind h three = omega (arith, h.row_number_is, three)
 

@@ -1,4 +1,4 @@
--- A text tells the history of its report: its records are the report's rows, of which just those of events have one field or three.
+-- A text determines the history of its report: its records are the report's rows, and exactly those of events have one field or three.
 use Rattle.std.proofs.Common.{◌≡◌, ◌≤◌, ◌^◌, ◌++◌, ◌∷◌, [], ℕ, List, Bool, false, cond, refl, sym, ap, ◌∙◌, length, map, codes, inl, inr, arith}
 use Rattle.std.specs.Prelude.{◌||◌, ◌==◌}
 use Rattle.std.specs.List.{filter}
@@ -20,7 +20,7 @@ use Rattle.item_catalog.specs.Records.{records_of}
 use Rattle.air_report.proofs.StandingLines.{plain_report}
 use Rattle.item_catalog.proofs.WrittenRows.{written_rows}
 
--- A row of an event has one field, or three; no other row does.
+-- A row of an event has one field or three; no other row does.
 abbrev is_event_row : List (List ℕ) → Bool
 is_event_row row = (length row == 1) || (length row == 3)
 

@@ -1,4 +1,4 @@
--- Lines of a history that come each next stand for a legal history.
+-- Lines of a history of which each comes next stand for a legal history.
 use Rattle.std.proofs.Common.{◌≡◌, ◌<◌, ◌+◌, ◌++◌, ◌∷◌, [], ℕ, zero, suc, List, Some, true, cond, refl, sym, ap, ◌∙◌, subst, append_assoc, length, map, nat_lt, take, arith}
 use Rattle.std.specs.Prelude.{◌==◌, slice_get}
 use Rattle.std.proofs.lemmas.Bool.{and_parts}

@@ -1,4 +1,5 @@
 pub mod LineOrder
+pub mod RecordRows
 pub mod LineRows
 pub mod LineCounts
 pub mod MadeReports

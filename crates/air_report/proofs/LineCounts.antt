@@ -1,4 +1,4 @@
--- How many lines a text spells at most.
+-- The greatest number of lines that a text spells.
 use Rattle.std.proofs.Common.{◌≡◌, ℕ, ◌+◌, ◌≤◌, Option, Some, None, List, [], ◌∷◌, length, refl, ◌∙◌, ap, arith}
 use Rattle.std.specs.List.{filter_map, cons_option}
 use Rattle.std.specs.Result.{result_ok}
@@ -24,7 +24,7 @@ kept_few f (x ∷ xs) = by (f x) (kept_few f xs)
     by None rest = omega arith
     by (Some y) rest = omega arith
 
--- Each line stands in one section.
+-- Each line is in one section.
 counted : (lines : List ReportLine) → line_count (sections_of lines) ≡ length lines
 counted [] = refl
 counted (l.Event line ∷ lines) = let rest = counted lines in omega arith
@@ -33,7 +33,7 @@ counted (l.Counts line ∷ lines) = let rest = counted lines in omega arith
 counted (l.Glance line ∷ lines) = let rest = counted lines in omega arith
 counted (l.Look line ∷ lines) = let rest = counted lines in omega arith
 
--- A text spells no more lines than it has bytes, and one more.
+-- A text spells at most one line more than it has bytes.
 pub few_lines : (deck : Deck) (text : List ℕ) (lines : ReportLines) → SpellsLines deck text lines → line_count lines ≤ length text + 1
 unfolding SpellsLines
 few_lines deck text lines spelled =

@@ -11,7 +11,7 @@ use Rattle.air_model.specs.declared.reports.VerdictLine.{VerdictLine}
 use Rattle.item_catalog.specs.RecordKinds.{kinds_of}
 use Rattle.air_report.specs.Kinds.{report_kind_number}
 use Rattle.air_report.specs.LineTexts.{abort_by, abort_of, aged_by, aged_of, aged_tag, as_line, below, commit_by, counts_by, ended_by, line_tag, seen_by, short_of, spelled_item, spelled_line, spelled_line_by, spelled_place, spelled_read, start_by, verdict_by}
-use Rattle.air_report.specs.RecordRows.{row_in}
+use Rattle.air_report.proofs.RecordRows.{row_in}
 use Rattle.air_report.specs.LineFaults.{comes_after_later_section, comes_next, end_begun, follow, has_begun, is_attempt, is_begun, is_filled, is_known, is_next, is_tried, leads, line_kinds_after, line_place_kinds, line_tests, may_end, read_item}
 use Rattle.air_report.specs.ReportLines.{ReportLines, commits_by, commits_of, its_counts, its_event, its_look, sections_of, starts_cycle, starts_in}
 use Rattle.air_report.specs.declared.reading.kinds.ReportFaultKind.TheVariants as fault
@@ -70,7 +70,7 @@ pub record Spelled : Type 0 where
   of_row : spelled_line 1 (codes "commit" ∷ codes "3" ∷ codes "4" ∷ []) ≡ Ok (l.Event (Commit 3 4))
   aged : spelled_line 2 (codes "aged" ∷ codes "0" ∷ codes "0" ∷ codes "1" ∷ codes "0@1=10" ∷ codes "1@256" ∷ []) ≡ Ok (l.Verdict (verdict 0 1 (kind.Aged 1 256) (r 0 1 10 ∷ [])))
   aged_alone : spelled_line 2 (codes "aged" ∷ []) ≡ Err fault.Fields
-  -- Where buckets have no ages it is no tag, whatever its fields.
+  -- If buckets have no ages, `aged` is no tag, regardless of its fields.
   aged_in_full : spelled_line 1 (codes "aged" ∷ codes "0" ∷ codes "0" ∷ codes "1" ∷ codes "0@1=10" ∷ codes "1@256" ∷ []) ≡ Err fault.Tag
   aged_alone_in_full : spelled_line 1 (codes "aged" ∷ []) ≡ Err fault.Tag
   row_of_look : row_in its_look 7 (Ok (l.Look (look 0 1))) ≡ Some 7
@@ -134,7 +134,7 @@ events = Start ∷ Commit 0 0 ∷ []
 abbrev before : ReportLines
 before = sections_of (l.Event Start ∷ l.Event (Commit 0 0) ∷ l.Look (look 0 1) ∷ [])
 
--- The kinds that apply to a line behind these.
+-- The kinds that apply to a line after these.
 abbrev kinds : ReportLine → List ℕ
 kinds line = kinds_of report_kind_number (line_tests deck before line)
 

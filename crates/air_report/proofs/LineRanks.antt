@@ -1,4 +1,4 @@
--- A line that stands behind all lines of a report, though it is put into its section, comes after no later section.
+-- A line that comes after all lines of a report, though it is put into its section, comes after no later section.
 use Rattle.std.proofs.Common.{◌≡◌, ◌++◌, ◌∷◌, [], ℕ, List, false, refl, sym, ap, ◌∙◌, map, arith}
 use Rattle.air_report.specs.LineFaults.{comes_after_later_section, is_filled}
 use Rattle.air_report.specs.ReportLines.{ReportLines}
@@ -31,7 +31,7 @@ module _ {L : Type 0} (wrap : L → ReportLine) (k : ℕ) (own : (x : L) → ran
   last_of n x [] = own x
   last_of n x (y ∷ ys) = last_of (rank (wrap x)) y ys
 
-  -- Where the last line is of another section, this one has no line.
+  -- If the last line is of another section, this one has no line.
   unfilled : (n j : ℕ) (xs : List L) → last_rank n (map wrap xs) ≡ j → (k ≡ j → ⊥) → (is_filled xs ≡ false) × (n ≡ j)
   unfolding last_rank
   unfilled n j [] h other = (refl, h)

@@ -1,4 +1,4 @@
--- What is told of each record of a text without fault, by its row and its line, is told section by section.
+-- What each record of a text without fault gives, by its row and its line, is given section by section.
 use Rattle.std.proofs.Common.{◌≡◌, ℕ, ◌+◌, Option, Some, None, Result, Ok, List, [], ◌∷◌, ◌++◌, length, length-append, map, refl, ◌∙◌, ap, arith}
 use Rattle.std.specs.List.{cons_option, enumerate_from, filter_map, range_with_len}
 use Rattle.std.proofs.lemmas.List.{append-nil, length-map}
@@ -10,10 +10,10 @@ use Rattle.air_report.specs.ReportLines.{ReportLines, its_glance, its_look, its_
 use Rattle.air_report.specs.declared.reading.kinds.ReportFaultKind.{ReportFaultKind}
 use Rattle.air_report.specs.declared.reading.lines.ReportLine.{ReportLine}
 use Rattle.air_report.specs.declared.reading.lines.ReportLine.TheVariants as l
-use Rattle.air_report.specs.RecordRows.{row_in, rows_of}
+use Rattle.air_report.proofs.RecordRows.{row_in, rows_of}
 use Rattle.air_report.proofs.LineOrder.{in_order, together}
 
--- What is told of records hangs on what they spell.
+-- What a record gives depends on what it spells.
 by_lines : {X : Type 0} (f : ℕ → Result ReportLine ReportFaultKind → Option X) (version n : ℕ) (rows : List (List (List ℕ))) (lines : List ReportLine) → map (spelled_line version) rows ≡ map Ok lines →
     filter_map (λ p. f p.0 (spelled_line version p.1)) (enumerate_from n rows) ≡ filter_map (λ p. f p.0 (Ok p.1)) (enumerate_from n lines)
 by_lines f version n [] [] e = refl
@@ -49,7 +49,7 @@ module _ {X : Type 0} (f : ℕ → ReportLine → Option X) where
     each g n [] some = refl
     each g n (x ∷ xs) some = rw (some n x, each g (n + 1) xs some) refl
 
-  -- What is told of the lines of a report, section by section.
+  -- What the lines of a report give, section by section.
   pub by_sections : (lines : ReportLines) → all_of 1 (together lines)
       ≡ all_of 1 (map l.Event lines.events)
       ++ all_of (1 + length lines.events) (map l.Verdict lines.verdicts)
@@ -70,7 +70,7 @@ module _ {X : Type 0} (f : ℕ → ReportLine → Option X) where
       joined 1 (E ++ V ++ C) G ∙ ap (λ x. all_of 1 (E ++ V ++ C) ++ all_of x G) eg ∙ ap (λ xs. xs ++ all_of g G) e3 in
       joined 1 (E ++ V ++ C ++ G) K ∙ ap (λ x. all_of 1 (E ++ V ++ C ++ G) ++ all_of x K) ek ∙ ap (λ xs. xs ++ all_of k K) e4
 
--- What is told of the records of a text that spells lines is told of these lines, in their order.
+-- What the records of a text give is what the lines that it spells give, in their order.
 pub by_records : {X : Type 0} (f : ℕ → Result ReportLine ReportFaultKind → Option X) (deck : Deck) (text : List ℕ) (lines : ReportLines) → SpellsLines deck text lines →
     filter_map (λ p. f p.0 (spelled_line deck.settings.version p.1)) (enumerate_from 1 (records_of text)) ≡ all_of (λ row line. f row (Ok line)) 1 (together lines)
 unfolding SpellsLines

@@ -1,4 +1,4 @@
--- What the rules of a line say: the reads of a query so far, a commit that is its updater's next, and what is counted with it.
+-- What the rules of a line say: the reads of a query so far, a commit that is its updater's next, and the counts after it.
 use Rattle.std.proofs.Common.{◌≡◌, ◌<◌, ◌≤◌, ◌+◌, ◌++◌, ◌∷◌, [], ℕ, zero, suc, List, None, Ok, Bool, true, false, cond, not, drop, get_or, length, map, nat_lt, set, refl, ap, ◌∙◌, arith, inl, inr}
 use Rattle.std.specs.Prelude.{◌==◌}
 use Rattle.std.proofs.lemmas.Bool.{and_parts, cases_eq, cases_lt}
@@ -19,7 +19,7 @@ use Rattle.air_report.specs.declared.reading.lines.EventLine.TheVariants.{Commit
 use Rattle.air_report.specs.declared.reading.lines.ReportLine.{ReportLine}
 use Rattle.air_report.specs.declared.reading.lines.ReportLine.TheVariants as l
 
--- A query at its end has no item for a further read.
+-- A query that is read to its end has no item for a further read.
 pub leads_none : (reads : List ReadOf) (i : ℕ) (left : List ℕ) → i < length reads → left ≡ [] → leads (map read_item (drop i reads)) left ≡ false
 leads_none [] i left below none = absurd (omega arith)
 leads_none (r ∷ reads) zero left below none = rw none refl

@@ -1,4 +1,4 @@
--- What is made of the lines of a text is its report, and keeps to the grammar.
+-- What is made of the lines of a text is its report, and is in the grammar.
 use Rattle.std.proofs.Common.{◌≡◌, ◌<◌, ◌≤◌, ◌+◌, ◌++◌, ◌∷◌, [], ℕ, zero, suc, List, All, sym, ap, ap₂, ◌∙◌, subst, inl, inr, length, arith, add-one}
 use Rattle.std.specs.List.{range_with_len}
 use Rattle.std.proofs.lemmas.Bool.{and_parts, cases_lt, ltb-true}
@@ -104,7 +104,7 @@ pub sizes : (deck : Deck) (text : List ℕ) (lines same : ReportLines) → Spell
     → length same.events + length same.verdicts + length same.counts + length same.glances + length same.looks ≤ MOST_REPORT_BYTES + 1
 sizes deck text lines same spelled limit is = omega (arith, few_lines deck text lines spelled, limit, ap line_count is)
 
--- A row more.
+-- One row more.
 row_next : (first count : ℕ) → range_with_len first (suc count) ≡ range_with_len first count ++ (first + count) ∷ []
 row_next first zero = let e : first ≡ first + 0 = omega arith in ap (λ k. k ∷ []) e
 row_next first (suc count) =

@@ -1,4 +1,4 @@
--- What a line alone is asked, as a report of its row.
+-- The tests of a line alone, as conditions on the report with its row.
 use Rattle.std.proofs.Common.{◌≡◌, ◌<◌, ◌≤◌, ◌∷◌, [], ℕ, List, All, true, refl, ap, subst, length}
 use Rattle.std.proofs.lemmas.Bool.{le-leb, leb-true, lt-ltb, ltb-true}
 use Rattle.std.proofs.lemmas.List.Elements.{All-cons, All-head, All-nil}

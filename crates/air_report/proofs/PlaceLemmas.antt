@@ -53,14 +53,14 @@ lines_more version rows row x h = filter_map-append (λ row. result_ok (spelled_
 -- ---- places
 
 module _ (deck : Deck) where
-  -- The kinds of a record, if there is one, behind records.
+  -- The kinds of a record after others, if there is one.
   abbrev pub judge : List (List (List ℕ)) → Option (List (List ℕ)) → List ℕ
   judge rows row = line_place_kinds deck (sections_of (spelled_lines deck.settings.version rows)) row
 
   tests_rise : (before : ReportLines) (line : ReportLine) → rising report_kind_number 0 (line_tests deck before line) ≡ true
   tests_rise before line = refl
 
-  -- One more record to which no kind applies, and one to which some kind does.
+  -- One more record: no kind applies to it, or some kind does.
   module _ (rows : List (List (List ℕ))) (row : List (List ℕ)) where
     pub added : line_record_kind deck (sections_of (spelled_lines deck.settings.version rows)) (spelled_line deck.settings.version row) ≡ None → with_spelled with_one_line (sections_of (spelled_lines deck.settings.version rows)) (spelled_line deck.settings.version row) ≡ sections_of (spelled_lines deck.settings.version (rows ++ row ∷ []))
     added h = by (spelled_line deck.settings.version row) refl h

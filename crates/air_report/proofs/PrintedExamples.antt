@@ -1,4 +1,4 @@
--- The words of reports as they are printed, on small reports: what a row is to have, what lines say, and which kinds apply behind a report.
+-- The definitions of printed reports on small reports: the fields of a row, what lines say, and which kinds apply after a report.
 use Rattle.std.proofs.Common.{◌≡◌, ◌<◌, ◌≤◌, ◌^◌, ◌++◌, ◌∷◌, ◌∙◌, [], ℕ, List, Some, None, true, false, refl, ap, codes, length, arith}
 use Rattle.std.specs.Prelude.{⊤}
 use Rattle.std.proofs.lemmas.List.Elements.{All-cons, All-head, All-nil}
@@ -12,7 +12,7 @@ use Rattle.air_model.specs.declared.reports.CountsLine.{CountsLine}
 use Rattle.air_model.specs.declared.reports.LookLine.{LookLine}
 use Rattle.air_model.specs.declared.reports.VerdictLine.{VerdictLine}
 use Rattle.air_report.specs.LineTexts.{spelled_line}
-use Rattle.air_report.specs.ReportGrammar.{Applies, IsLineOf, NoLine, due_length, joined, row_lengths}
+use Rattle.air_report.specs.ReportGrammar.{Applies, IsOneRow, NoSuchReport, due_length, joined, row_lengths}
 use Rattle.air_report.specs.ReportRules.{CountsWide, EndWide, EventWide, CyclesBegun, IsKnown, IsReport, IsTried, LookWide, MayEnd, VerdictWide, its_attempt}
 use Rattle.air_report.specs.declared.reading.kinds.ReportFaultKind.TheVariants as fault
 use Rattle.air_report.proofs.PrintedReports.{line_is}
@@ -53,7 +53,7 @@ look2 = record { monitor = 0; cycle = 2; total = 30 }
 abbrev its_line : Report
 its_line = record nothing { looks = look2 ∷ [] }
 
-line_of_look : IsLineOf look_row2 its_line
+line_of_look : IsOneRow look_row2 its_line
 unfolding number_text
 line_of_look = record {
   rows = refl;
@@ -67,11 +67,11 @@ line_of_look = record {
 }
 
 -- A glance is no look.
-not_its_line : IsLineOf look_row2 (record nothing { glances = look2 ∷ [] }) → ⊥
+not_its_line : IsOneRow look_row2 (record nothing { glances = look2 ∷ [] }) → ⊥
 not_its_line h = let rows = h.rows in cc rows
 
 -- A row without a field has no line.
-no_line : NoLine [] (λ line. ⊤)
+no_line : NoSuchReport [] (λ line. ⊤)
 no_line line is t =
     let found = line_is [] line is in
     let spelled = ap (spelled_line 2) found.1.row_is ∙ line_spelled 2 found.0 found.1.wide (all_told found.0) in cc spelled
@@ -99,7 +99,7 @@ other_item : IsTried deck (verdict 1 Unfinished (read 1 1 ∷ [])) → ⊥
 unfolding follows_query
 other_item h = let follows = h.1.follows in cc follows
 
--- An attempt ends aged where buckets have ages.
+-- An attempt ends aged if buckets have ages.
 abbrev aged : VerdictLine
 aged = verdict 1 (Aged 1 256) (read 0 1 ∷ [])
 
@@ -159,7 +159,7 @@ unknown = refl
 not_unknown : Applies deck report look_row2 fault.Tag → ⊥
 not_unknown h = cc h
 
--- What is printed of an aged attempt has a tag where buckets have ages.
+-- The printed row of an aged attempt has a tag if buckets have ages.
 abbrev aged_row : Row
 aged_row = codes "aged" ∷ codes "0" ∷ codes "0" ∷ codes "1" ∷ codes "0@1=10" ∷ codes "1@256" ∷ []
 
@@ -169,7 +169,7 @@ aged_unknown = refl
 aged_known : Applies young report aged_row fault.Tag → ⊥
 aged_known h = cc h
 
--- Its number of fields is no fault where it has none.
+-- The number of fields of `aged` is no fault if it is no tag.
 no_aged_fields : Applies deck report (codes "aged" ∷ []) fault.Fields → ⊥
 no_aged_fields h = h.0 refl
 
@@ -179,7 +179,7 @@ aged_fields = (λ none. cc none, λ some. let n : ◌≡◌ {A = ℕ} 6 1 = cc s
 not_unformed : Applies deck report look_row2 fault.Form → ⊥
 not_unformed h = h.1 its_line line_of_look tt
 
--- Behind the report, which ends with a look, another look is in order.
+-- After the report, which ends with a look, another look is in order.
 in_order : report_rows (joined report its_line) ≡ report_rows report ++ report_rows its_line
 in_order = refl
 

@@ -1,5 +1,5 @@
--- A record that spells a line is the row that is printed of it, and the numbers of the line fit their types: the fields behind each tag. They
--- may spell none, for another number of fields, or for a field that isn't of its form.
+-- A record that spells a line is the row that is printed of it, and the numbers of the line fit their types: the fields after each tag. They may
+-- spell no line, with another number of fields or a field that isn't of its form.
 use Rattle.std.proofs.Common.{◌≡◌, ◌≢◌, ◌∷◌, ◌⊎◌, [], ℕ, List, Option, Some, None, Result, Ok, Err, Bool, true, false, inl, inr, refl, ap, ◌∙◌, subst, codes, length, arith}
 use Rattle.air_base.specs.NumberLists.{list_of}
 use Rattle.air_base.specs.Numbers.{number_of, number_text}
@@ -68,7 +68,7 @@ line_spelled version (l.Counts x) w told = counts_spelled version x w
 line_spelled version (l.Glance x) w told = glance_spelled version x w
 line_spelled version (l.Look x) w told = look_spelled version x w
 
--- From version 2 on each line has its tag.
+-- In version 2 each line has its tag.
 pub all_told : (x : ReportLine) → is_told 2 x ≡ true
 all_told (l.Event x) = refl
 all_told (l.Verdict x) = by x.verdict.kind
@@ -100,9 +100,10 @@ spelled_or_untold version (l.Counts x) w = inl (line_spelled version (l.Counts x
 spelled_or_untold version (l.Glance x) w = inl (line_spelled version (l.Glance x) w refl)
 spelled_or_untold version (l.Look x) w = inl (line_spelled version (l.Look x) w refl)
 
--- ---- what fields tell behind a tag
+-- ---- the fields after a tag
 
--- Behind a tag whose rows have so many fields: a line, whose row it is; or another length; or no form.
+-- The fields after a tag whose rows have this number of fields: a line, whose row it is; or another number of fields; or a field that isn't of its
+-- form.
 abbrev pub Told : Row → ℕ → Result ReportLine ReportFaultKind → Type 0
 Told row n (Ok x) = (length row ≡ n) × Printed row x
 Told row n (Err fault.Fields) = length row ≢ n
@@ -199,7 +200,7 @@ abort_told (f ∷ g ∷ i ∷ j ∷ k ∷ m ∷ []) = by (short_of f) (short_of 
           },
         )
 
--- The field of the end of an attempt whose next read lay too far.
+-- The field of the end of an attempt whose next read was too far.
 record AgedText (place : List ℕ) (end : VerdictKind) : Type 0 where
   item : ℕ
   cycle : ℕ

@@ -1,4 +1,4 @@
--- The rules of a report's lines, as the reader asks them, are those of the report: tries of a query, what the deck has, and cycles that began.
+-- The rules of a report's lines, as the reader tests them, are those of the report: tries of a query, what the deck has, and cycles that began.
 use Rattle.std.proofs.Common.{◌≡◌, ◌≤◌, ◌+◌, ◌++◌, ◌∷◌, [], ℕ, suc, List, All, Option, Some, None, Bool, true, false, cond, ◌==◌, ◌&&◌, refl, sym, ap, ◌∙◌, subst, length, get_or, map, nat_eq, nat_le, nat_lt, take, slice_get, inl, inr, arith}
 use Rattle.std.specs.Cmp.Lexicographic.{pointwise}
 use Rattle.std.specs.List.{list_all, list_any}
@@ -83,7 +83,7 @@ found : {X : Type 0} (f : X → Bool) (o : Option X) → option_map_or f o false
 found f None h = absurd (false≢true h)
 found f (Some x) h = (x, refl, h)
 
--- An attempt ends as it may.
+-- An attempt ends as it may end.
 ends_so : (version : ℕ) (end : VerdictKind) → may_end version end ≡ true → MayEnd version end
 ends_so version Accept h = λ none. absurd none
 ends_so version (Abort item cycle clash) h = λ none. absurd none
@@ -147,7 +147,7 @@ module _ (deck : Deck) (x : VerdictLine) where
 
 -- ---- cycles
 
--- A read's cycle is one of the first so many.
+-- A read's cycle is one of the first `starts`.
 abbrev pub Begun : ℕ → ReadAt → Type 0
 Begun starts read = (1 ≤ read.cycle) × (read.cycle ≤ starts)
 
@@ -217,7 +217,7 @@ module _ (starts : ℕ) where
   pub is_verdict_begun : (x : VerdictLine) → VerdictBegun x → is_begun starts (l.Verdict x) ≡ true
   is_verdict_begun x h = is_ended_begun x.verdict.kind x.reads h
 
--- The lines of a history have its starts.
+-- The lines of a history have as many starts as the history.
 pub starts_of : (H : List Event) → starts_in (map its_line H) ≡ starts H
 unfolding starts is_start
 starts_of [] = refl

@@ -1,4 +1,4 @@
--- What a text is that spells a number, a place or reads: the text that is printed of them. The numbers fit their types.
+-- A text that spells a number, a place or reads is the text that is printed of them. The numbers fit their types.
 use Rattle.std.proofs.Common.{◌≡◌, ◌<◌, ◌^◌, ◌++◌, ◌∷◌, [], ℕ, List, All, Option, Some, None, Bool, true, false, cond, refl, sym, ap, ap₂, ◌∙◌, subst, map, nat_lt}
 use Rattle.std.proofs.lemmas.Bool.{ltb-true}
 use Rattle.std.proofs.lemmas.List.Elements.{All-cons, All-nil}
@@ -14,7 +14,7 @@ use Rattle.air_report.specs.ReportRules.{ReadWide}
 use Rattle.air_report.proofs.ReadLemmas as read
 use Rattle.air_report.proofs.TextLemmas as texts
 
--- ---- lists that are the same part by part
+-- ---- lists that are equal part by part
 
 pub same_cons : {X : Type 0} {x y : X} {xs ys : List X} → x ≡ y → xs ≡ ys → x ∷ xs ≡ y ∷ ys
 same_cons {X = X} h k = ap₂ (λ (x : X) (xs : List X). x ∷ xs) h k

@@ -1,4 +1,4 @@
--- The rows of a report are those that are printed of its lines, section by section; and its lines are told by these rows.
+-- The rows of a report are those printed of its lines, section by section; and these rows determine its lines.
 use Rattle.std.proofs.Common.{◌≡◌, ◌++◌, ◌∷◌, [], ℕ, List, All, Option, Some, None, Ok, refl, sym, ap, ◌∙◌, codes, map}
 use Rattle.std.specs.List.{filter_map}
 use Rattle.std.proofs.lemmas.List.{append-nil, map-append}
@@ -12,7 +12,7 @@ use Rattle.air_model.specs.declared.reports.LookLine.{LookLine}
 use Rattle.air_model.specs.declared.reports.VerdictLine.{VerdictLine}
 use Rattle.air_report.specs.LineRules.{LineWide, LinesWide}
 use Rattle.air_report.specs.LineTexts.{spelled_line}
-use Rattle.air_report.specs.ReportGrammar.{IsLineOf, joined}
+use Rattle.air_report.specs.ReportGrammar.{IsOneRow, joined}
 use Rattle.air_report.specs.ReportLines.{ReportLines, event_in, its_counts, its_event, its_glance, its_line, its_look, its_verdict, lines_in, report_in, sections_of}
 use Rattle.air_report.specs.ReportRules.{CountsWide, EventWide, HasWidths, LookWide, VerdictWide}
 use Rattle.air_report.specs.Private.RecordAnswers.{with_one_line}
@@ -59,11 +59,11 @@ lines_of_rows version (row ∷ rows) (x ∷ lines) h =
     let one = printed version row x here in let rest = lines_of_rows version rows lines more in
     (same_cons one.row_is rest.0, All-cons Wide x lines one.wide rest.1)
 
--- A line is told by its row: from version 2 on its row spells it.
+-- A line's row determines the line: in version 2 the row spells it.
 pub row_tells : (x y : ReportLine) → Wide x → Wide y → line_row x ≡ line_row y → x ≡ y
 row_tells x y a b h = let told = sym (line_spelled 2 x a (all_told x)) ∙ ap (spelled_line 2) h ∙ line_spelled 2 y b (all_told y) in cc told
 
--- Lines are told by their rows.
+-- Rows determine their lines.
 pub rows_tell : (xs ys : List ReportLine) → All Wide xs → All Wide ys → map line_row xs ≡ map line_row ys → xs ≡ ys
 rows_tell [] [] a b h = refl
 rows_tell [] (y ∷ ys) a b h = cc h
@@ -181,7 +181,7 @@ sections_back r = same_sections
     (by_parts its_look r [] [] [] [] r.looks (others its_look l.Event (λ x. refl) r.events) (others its_look l.Verdict (λ x. refl) r.verdicts) (others its_look l.Counts (λ x. refl) r.counts)
     (others its_look l.Glance (λ x. refl) r.glances) (own its_look l.Look (λ x. refl) r.looks))
 
--- Each event of a line is named by the line.
+-- The lines of the events that lines name are these lines.
 pub named_back : (deck : Deck) (lines : List EventLine) → map its_line (map (event_in deck) lines) ≡ lines
 named_back deck [] = refl
 named_back deck (Commit by seq ∷ lines) = ap (λ es. Commit by seq ∷ es) (named_back deck lines)
@@ -192,8 +192,8 @@ lines_back deck lines = ap (λ es. record lines { events = es }) (named_back dec
 
 -- ---- single lines
 
--- The row of a line is printed of one line, which is all that stands in the report's sections.
-pub line_is : (row : Row) (line : Report) → IsLineOf row line → (x : ReportLine) × Printed row x × (lines_in line ≡ sections_of (x ∷ []))
+-- The row of a line is printed of one line, which is all that the report's sections have.
+pub line_is : (row : Row) (line : Report) → IsOneRow row line → (x : ReportLine) × Printed row x × (lines_in line ≡ sections_of (x ∷ []))
 line_is row line is = by (together (lines_in line)) refl (rows_of_lines line ∙ is.rows) (all_wide line is.widths)
   where
     by : (ls : List ReportLine) → together (lines_in line) ≡ ls → map line_row ls ≡ row ∷ [] → All Wide ls → (x : ReportLine) × Printed row x × (lines_in line ≡ sections_of (x ∷ []))
@@ -203,7 +203,7 @@ line_is row line is = by (together (lines_in line)) refl (rows_of_lines line ∙
         (x, record { row_is = sym here; wide = All-head Wide x [] w }, sym (sections_back (lines_in line)) ∙ ap sections_of e)
     by (x ∷ y ∷ ls) e h w = cc h
 
--- The report of a line alone, its updates the deck's.
+-- The report of a line alone, with the deck's updates.
 abbrev pub own_line : Deck → ReportLine → Report
 own_line deck x = report_in deck (sections_of (x ∷ []))
 
@@ -222,10 +222,10 @@ one_wide (l.Counts x) w = All-cons Wide (l.Counts x) [] w (All-nil Wide)
 one_wide (l.Glance x) w = All-cons Wide (l.Glance x) [] w (All-nil Wide)
 one_wide (l.Look x) w = All-cons Wide (l.Look x) [] w (All-nil Wide)
 
-pub own_is : (deck : Deck) (row : Row) (x : ReportLine) → Printed row x → IsLineOf row (own_line deck x)
+pub own_is : (deck : Deck) (row : Row) (x : ReportLine) → Printed row x → IsOneRow row (own_line deck x)
 own_is deck row x is = record { rows = own_row deck x ∙ ap (λ r. r ∷ []) (sym is.row_is); widths = widths_of deck (sections_of (x ∷ [])) (one_wide x is.wide) }
 
--- One line more behind a report.
+-- One line more after a report.
 one_joined : (r : ReportLines) (x : ReportLine) (s : ReportLines) → s ≡ sections_of (x ∷ [])
     → ◌≡◌ {A = ReportLines} (record { events = r.events ++ s.events; verdicts = r.verdicts ++ s.verdicts; counts = r.counts ++ s.counts; glances = r.glances ++ s.glances; looks = r.looks ++ s.looks }) (with_one_line r x)
 one_joined r (l.Event x) s is = rw is (same_sections refl (append-nil r.verdicts) (append-nil r.counts) (append-nil r.glances) (append-nil r.looks))

@@ -72,7 +72,7 @@ tag_named version text s h =
     named (codes "commit") text t.Commit s r2 refl (named (codes "start") text t.Start s r3 refl (named (codes "accept") text t.Accept s r4 refl (named (codes "abort") text t.Abort s r5 refl
     (named (codes "unfinished") text t.Unfinished s r6 refl (named (codes "counts") text t.Counts s r7 refl (named (codes "glance") text t.Glance s r8 refl (named (codes "look") text t.Look s r9 refl (aged_named version text s)))))))) h
 
--- How many fields a row is to have is told by its tag.
+-- The tag determines how many fields a row must have.
 due_is : (version : ℕ) (tag : List ℕ) (fields : Row) → due_length version (tag ∷ fields) ≡ option_map tag_count (line_tag version tag)
 due_is version tag fields = by (tag is codes "commit") (tag is codes "start") (tag is codes "accept") (tag is codes "abort") (tag is codes "unfinished") (tag is codes "counts") (tag is codes "glance") (tag is codes "look")
     (find (λ (entry : List ℕ × ℕ). tag is entry.0) (cond (has_ages version) ((codes "aged", 6) ∷ []) [])) (cond (tag is codes "aged") (aged_tag version) None) (rest (has_ages version) (tag is codes "aged") refl)
@@ -114,7 +114,8 @@ tag_told version tag fields t.Look e = subst (λ x. Told (x ∷ fields) 4 (as_li
 
 -- ---- rows
 
--- What a record that spells this is: the row of a line, of the length that its tag asks for; or it has another length, no form, or no tag.
+-- What a record that spells this is: the row of a line, with the number of fields of its tag; or it has another number of fields, a field that isn't
+-- of its form, or no tag.
 abbrev pub RowTold : ℕ → Row → Result ReportLine ReportFaultKind → Type 0
 RowTold version row (Ok x) = (due_length version row ≡ Some (length row)) × Printed row x
 RowTold version row (Err fault.Fields) = (due_length version row ≢ None) × (due_length version row ≢ Some (length row))

@@ -1,6 +1,6 @@
 -- The place and the read that a text spells, by its leading digits.
 --
--- `place_is` and `read_is` say what a text is that spells one, `place_made` and `read_made` that such a text does. `leading_is`
+-- `place_is` and `read_is` say what a text is that spells a place or a read, `place_made` and `read_made` that such a text spells one. `leading_is`
 -- answers the reader of the first part, the others that of a whole place.
 use Rattle.std.proofs.Common.{◌≡◌, ◌++◌, ◌∷◌, [], ℕ, List, Option, Some, None, Bool, true, false, cond, not, refl, sym, ap, ◌∙◌, append_assoc, nat_lt, arith}
 use Rattle.std.specs.Prelude.{◌==◌, ◌^◌, drop}
@@ -151,7 +151,7 @@ place_leads text p h =
     let back = digits_all t.second (short_digits t.second p.1 t.cycle_is) in
     rw (t.text_is, at_leading.0, at_leading.1, t.item_is, back.0, back.1, t.cycle_is) refl
 
--- What a text begins with is a place, and what stands behind it.
+-- A text begins with a place, and this comes after it.
 pub record Led (text : List ℕ) (item cycle : ℕ) (rest : List ℕ) : Type 0 where
   pub more : List ℕ
   pub item_is : spelled_item (digits_of text) ≡ Some item
@@ -159,7 +159,7 @@ pub record Led (text : List ℕ) (item cycle : ℕ) (rest : List ℕ) : Type 0 w
   pub cycle_is : short_of (digits_of more) ≡ Some cycle
   pub rest_is : after_digits more ≡ rest
 
--- The text behind this byte, where the text begins with it.
+-- The text after this byte, if the text begins with it.
 abbrev behind_byte : ℕ → List ℕ → Option (List ℕ)
 behind_byte byte text = cond (begins byte text) (Some (drop 1 text)) None
 

@@ -1,4 +1,4 @@
--- What is answered of a text whose first records were read: the fault of the next one, or the lines of all.
+-- The answer on a text whose first records were read: the fault of the next one, or the lines of all.
 use Rattle.std.proofs.Common.{◌≡◌, ◌<◌, ◌+◌, ◌++◌, ◌∷◌, ◌∙◌, [], ℕ, List, Some, sym, refl, subst, length, length-append, arith}
 use Rattle.std.proofs.lemmas.List.{append-nil}
 use Rattle.air_model.specs.Decks.{Deck}

@@ -1,4 +1,4 @@
--- A tag alone, and a tag with fields behind it.
+-- A tag alone, and a tag with fields after it.
 use Rattle.std.proofs.Common.{◌≡◌, ◌≢◌, ◌<◌, ◌∷◌, [], ℕ, List, Ok, Err, length, drop, refl, arith}
 use Rattle.air_report.specs.LineTexts.{start_by}
 use Rattle.air_report.specs.declared.reading.kinds.ReportFaultKind.TheVariants as fault

@@ -5,7 +5,7 @@ use Rattle.air_base.specs.Numbers.{number_of}
 use Rattle.air_base.specs.NumberLists.{all_some}
 use Rattle.air_report.specs.LineTexts.{short_of, spelled_item, spelled_place, spelled_read}
 use Rattle.air_report.specs.ReportLines.{its_glance, its_look, its_verdict}
-use Rattle.air_report.specs.RecordRows.{rows_of}
+use Rattle.air_report.proofs.RecordRows.{rows_of}
 
 -- The fields of a record.
 abbrev Row : Type 0

@@ -1,4 +1,4 @@
--- Which kinds of fault apply to a row behind a report: the least of them is the one that the reader tells, and where it tells none, none does.
+-- Which kinds of fault apply to a row after a report: the least is the one that the reader answers; if it answers none, none applies.
 use Rattle.std.proofs.Common.{◌≡◌, ◌<◌, ◌≤◌, ◌++◌, ◌∷◌, ◌∙◌, [], List, Some, None, Result, Ok, Err, Bool, true, false, not, refl, sym, ap, subst, append_assoc, inl, inr, map, arith}
 use Rattle.std.specs.Prelude.{⊤}
 use Rattle.std.proofs.lemmas.Bool.{cases_lt, true≢false}
@@ -13,7 +13,7 @@ use Rattle.air_report.specs.Kinds.{report_kind_number}
 use Rattle.air_report.specs.LineFaults.{comes_after_later_section, comes_next, is_begun, is_known, is_next, line_tests}
 use Rattle.air_report.specs.LineRules.{EachNext}
 use Rattle.air_report.specs.LineTexts.{spelled_line}
-use Rattle.air_report.specs.ReportGrammar.{Applies, IsLineOf, NoLine, joined}
+use Rattle.air_report.specs.ReportGrammar.{Applies, IsOneRow, NoSuchReport, joined}
 use Rattle.air_report.specs.ReportLines.{ReportLines, event_in, its_line, lines_in, sections_of, starts_in}
 use Rattle.air_report.specs.ReportRules.{IsReport}
 use Rattle.air_report.specs.Private.RecordAnswers.{line_record_kind, with_one_line}
@@ -88,7 +88,7 @@ module _ (deck : Deck) (before : Report) (rep : IsReport deck before) where
       sym (rows_of_lines (joined before one)) ∙ ap (λ r. map line_row (together r)) (lines_joined before one x (lines_back deck (sections_of (x ∷ []))))
       ∙ ap (map line_row) (one_more lines x late) ∙ map-append line_row (together lines) (x ∷ []) ∙ same_append (rows_of_lines before) (sym (own_row deck x))
 
-  order_told : (row : Row) (x : ReportLine) → Printed row x → (line : Report) → IsLineOf row line → lines_in line ≡ sections_of (x ∷ [])
+  order_told : (row : Row) (x : ReportLine) → Printed row x → (line : Report) → IsOneRow row line → lines_in line ≡ sections_of (x ∷ [])
       → report_rows (joined before line) ≡ report_rows before ++ report_rows line → comes_after_later_section lines x ≡ false
   order_told row x p line is same h =
       let whole = joined before line in
@@ -117,7 +117,7 @@ module _ (deck : Deck) (before : Report) (rep : IsReport deck before) where
     }
 
     -- A record with a field that isn't of its form is printed of no line: the row of a line spells it, or has no tag.
-    no_line : spelled_line deck.settings.version row ≡ Err fault.Form → NoLine row (λ line. ⊤)
+    no_line : spelled_line deck.settings.version row ≡ Err fault.Form → NoSuchReport row (λ line. ⊤)
     no_line e line is any =
         let found = line_is row line is in let same = sym e ∙ ap (spelled_line deck.settings.version) found.1.row_is in
         elim (spelled_or_untold deck.settings.version found.0 found.1.wide) [ inl own ↦ let told = same ∙ own in cc told | inr none ↦ let told = same ∙ none in cc told ]
@@ -163,10 +163,10 @@ module _ (deck : Deck) (before : Report) (rep : IsReport deck before) where
       told : RowTold deck.settings.version row (Ok x)
       told = spelled_told deck.settings.version row (Ok x) e
 
-      mine : IsLineOf row (own_line deck x)
+      mine : IsOneRow row (own_line deck x)
       mine = own_is deck row x told.1
 
-      same : (line : Report) → IsLineOf row line → lines_in line ≡ sections_of (x ∷ [])
+      same : (line : Report) → IsOneRow row line → lines_in line ≡ sections_of (x ∷ [])
       same line is =
           let found = line_is row line is in let one : found.0 ≡ x = row_tells found.0 x found.1.wide told.1.wide (sym found.1.row_is ∙ told.1.row_is) in
           found.2 ∙ ap (λ y. sections_of (y ∷ [])) one
@@ -243,7 +243,7 @@ module _ (deck : Deck) (before : Report) (rep : IsReport deck before) where
           by false true true false ea en ek eb h = cc h
           by false true true true ea en ek eb h = none_holds ea en ek eb
 
-    -- What the reader tells of a record.
+    -- The kind that the reader answers on a record.
     pub least_kind_is : (kind : ReportFaultKind) → line_record_kind deck lines (spelled_line deck.settings.version row) ≡ Some kind → Least kind
     least_kind_is kind h = by (spelled_line deck.settings.version row) refl h
       where

@@ -8,7 +8,7 @@ use Rattle.csv.specs.Writing.{field_text, fields_written, has_written, is_blank,
 use Rattle.csv.proofs.WriteFacts.{blank-more, row-more}
 use Rattle.air_model.specs.Rows.{row_writer}
 use Rattle.air_report.specs.RowWriters.{IsRowWriter, written_text}
-use Rattle.air_report.specs.BegunRows.{IsBegun}
+use Rattle.air_report.specs.Private.BegunRows.{IsBegun}
 
 -- Reports have no style that looks at numbers.
 plain_style : row_writer.style ≢ style.NonNumeric
@@ -46,18 +46,18 @@ none_yet wtr ready = record {
   blank = rw ready.no_byte refl;
 }
 
--- Behind a tag, the field of one element more.
+-- After a tag, the field of one element more.
 pub next_field : {X : Type 0} (text : X → List ℕ) (xs : List X) (i : ℕ) (d : X) (before tag field : List ℕ) (wtr : Writer (Vec ℕ Global)) → i < length xs → field ≡ text (get_or xs i d)
     → IsBegun before ((tag ∷ map text (take i xs)) ++ field ∷ []) wtr → IsBegun before (tag ∷ map text (take (i + 1) xs)) wtr
 next_field text xs i d before tag field wtr below told begun =
     subst (λ fields. IsBegun before (tag ∷ fields) wtr) (ap (λ t. map text (take i xs) ++ t ∷ []) told ∙ sym (map_more text xs i d below)) begun
 
--- So many fields stand before it.
+-- The number of fields before it is small.
 pub few_fields : {X : Type 0} (text : X → List ℕ) (xs : List X) (i : ℕ) (tag : List ℕ) → i < length xs → i + 2 < 2 ^ 64 → length (tag ∷ map text (take i xs)) + 1 < 2 ^ 64
 few_fields text xs i tag below small =
     omega (arith, length-map (take i xs) text, length-take i xs)
 
--- All of them stand there.
+-- All of them are there.
 pub all_fields : {X : Type 0} (text : X → List ℕ) (xs : List X) (i : ℕ) (before tag : List ℕ) (wtr : Writer (Vec ℕ Global)) → length xs ≤ i
     → IsBegun before (tag ∷ map text (take i xs)) wtr → IsBegun before (tag ∷ map text xs) wtr
 all_fields text xs i before tag wtr all begun = subst (λ ys. IsBegun before (tag ∷ map text ys) wtr) (take_all i xs all) begun

@@ -1,4 +1,4 @@
--- The lines of a legal history come each next, and stand for the history itself.
+-- Each line of a legal history comes next, and they stand for the history itself.
 use Rattle.std.proofs.Common.{◌≡◌, ◌+◌, ◌++◌, ◌∷◌, [], ℕ, zero, suc, List, Some, true, cond, refl, sym, ap, ◌∙◌, subst, append_assoc, length, map, nat_lt, take}
 use Rattle.std.specs.Prelude.{◌==◌, slice_get}
 use Rattle.std.proofs.lemmas.Bool.{eq-eqb, lt-ltb}
@@ -15,7 +15,7 @@ use Rattle.air_report.specs.ReportLines.{commits_by, commits_of, event_in, its_l
 use Rattle.air_report.specs.LineRules.{EachNext}
 use Rattle.air_report.proofs.LegalLines.{legal}
 
--- An updater's commits are as many as their lines.
+-- The number of an updater's commits is that of their lines.
 its_line_same : (by : ℕ) (H : List Event) → commits_by by (map its_line H) ≡ count_made by H
 unfolding is_by
 its_line_same by [] = refl
@@ -28,7 +28,7 @@ its_line_same by (x ∷ H) =
     one e.Start = refl
 
 module _ (deck : Deck) where
-  -- Each commit of events that are left is its updater's next, behind those done and those before it.
+  -- Each commit among the events that are left is its updater's next, after those done and those before it.
   abbrev AllNext : List Event → List Event → Type 0
   AllNext done left = (p by seq : ℕ) (update : UpdateLists) → slice_get left p ≡ Some (e.Commit by seq update) → IsNextCommit deck (done ++ take p left) by seq update
 
@@ -68,7 +68,7 @@ module _ (deck : Deck) where
   all_same done (x ∷ left) next =
       ap (λ y. y ∷ map (event_in deck) (map its_line left)) (event_same done x left next) ∙ ap (λ es. x ∷ es) (all_same (done ++ x ∷ []) left (later done x left next))
 
-  -- A history is legal exactly if its lines come each next and stand for it.
+  -- A history is legal if and only if each of its lines comes next and they stand for it.
   pub legal_next : (H : List Event) → IsLegal deck H → EachNext deck [] (map its_line H)
   legal_next H legal = each_next [] H legal
 

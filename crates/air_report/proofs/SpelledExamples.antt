@@ -1,5 +1,4 @@
--- What small texts spell as reports of a small deck, record by record, and then as what is printed of reports: where it holds, and where it
--- doesn't.
+-- What small texts spell as reports of a small deck, record by record, and then as printed reports: positive and negative examples.
 use Rattle.std.proofs.Common.{◌≡◌, ◌<◌, ◌≤◌, ◌^◌, get_or, ℕ, zero, suc, List, [], ◌∷◌, None, false, All, refl, ap, arith}
 use Rattle.std.specs.Prelude.{codes, length}
 use Rattle.std.proofs.lemmas.List.Elements.{All-from_recursion, All-nil}
@@ -60,7 +59,7 @@ rows_spell : RecordsSpellLines deck rows (lines_in report)
 unfolding spelled_read spelled_place spelled_item short_of number_of all_some
 rows_spell = record { faultless = no_kind; sections = refl }
 
--- Not without one of the lines, nor where the look comes first.
+-- The rows don't spell the lines without the look, nor lines of which the look comes first.
 not_rows_spell : (RecordsSpellLines deck rows (record (lines_in report) { looks = [] }) → ⊥)
     × (RecordsSpellLines deck ((codes "look" ∷ codes "0" ∷ codes "0" ∷ codes "30" ∷ []) ∷ (codes "start" ∷ []) ∷ []) (record (lines_in report) { looks = [] }) → ⊥)
 unfolding line_kinds_at spelled_read spelled_place spelled_item short_of number_of all_some
@@ -69,20 +68,20 @@ not_rows_spell = (
   λ h. let late : 4 ∷ [] ≡ [] = h.faultless 1 (omega arith) in cc,
 )
 
--- By its bytes.
+-- The bytes spell these lines.
 spells : SpellsLines deck its_bytes (lines_in report)
 unfolding SpellsLines csv_on_literals
 spells = rows_spell
 
--- What is read of the bytes: the report, and the rows of its verdict and of its look.
+-- What is read from the bytes: the report, and the rows of its verdict and of its look.
 abbrev read : ReadReport
 read = record { report = report; verdict_rows = 3 ∷ []; glance_rows = []; look_rows = 4 ∷ [] }
 
--- The report, whose rows they are.
+-- The bytes spell the report with these rows.
 pub spells_report : SpellsReport deck its_bytes report
 spells_report = spelled_report deck its_bytes (lines_in report) spells
 
--- Not without one of its lines.
+-- They don't spell it without its look.
 not_spelled : SpellsReport deck its_bytes (record report { looks = [] }) → ⊥
 unfolding csv_on_literals
 not_spelled h = let n : 4 ≡ 3 = ap length h.rows in omega (arith, n)
@@ -90,11 +89,11 @@ not_spelled h = let n : 4 ≡ 3 = ap length h.rows in omega (arith, n)
 is_report : IsReportOf deck its_bytes read
 is_report = record { spelled = spells_report; verdict_rows = refl; glance_rows = refl; look_rows = refl }
 
--- Not where another row is told.
+-- The row of the look isn't 3.
 not_report : IsReportOf deck its_bytes (record read { look_rows = 3 ∷ [] }) → ⊥
 not_report h = let rows_are : 3 ∷ [] ≡ 4 ∷ [] = h.look_rows in let row : 3 ≡ 4 = ap (λ rs. get_or rs 0 0) rows_are in omega (arith, row)
 
--- A look at a cycle that has not begun, in the second record.
+-- The second record has a look at a cycle that has not begun.
 by_bytes : HasLineFault deck (codes "start\nlook,0,2,30\n") 2 7
 unfolding HasLineFault line_kinds_at csv_on_literals spelled_read spelled_place spelled_item short_of number_of all_some
 by_bytes = (
@@ -115,7 +114,7 @@ by_bytes = (
     least zero d below = omega arith
     least (suc k) d below = absurd (omega arith)
 
--- It is the fault of the text, behind the one row of a report.
+-- The text has this fault, after the one row of a report.
 pub has_fault : HasReportFault deck (codes "start\nlook,0,2,30\n") 2 7
 has_fault = told_fault deck (codes "start\nlook,0,2,30\n") 2 7 by_bytes
 
@@ -187,7 +186,7 @@ within = record {
   };
 }
 
--- Every report with a legal history that is this text has this one, and it needn't be whole.
+-- Every report with a legal history and this text has this history, even if it isn't a report of the deck.
 one_told : (other : Report) → IsLegal deck other.history → report_text other ≡ its_bytes → other.history ≡ report.history
 unfolding report_text rows_text number_text escaped fields_text is_blank
 one_told other legal_other text = one_history deck other report within legal_other spells_report.report.legal text

@@ -1,4 +1,4 @@
--- Rows without fault, and one section of lines more behind them.
+-- Rows without fault, and one more section of lines after them.
 use Rattle.std.proofs.Common.{◌≡◌, ◌++◌, ◌∷◌, [], ℕ, List, None, Ok, true, refl, sym, ap, ◌∙◌, subst, append_assoc, codes, length, map, arith}
 use Rattle.std.specs.Prelude.{All}
 use Rattle.std.proofs.lemmas.Bool.{and_parts}
@@ -28,7 +28,7 @@ use Rattle.air_report.specs.ReportRules.{CountsWide, LookWide, VerdictWide}
 use Rattle.item_catalog.proofs.WrittenRows.{EachPlain, Plain, plain_map, plain_more}
 use Rattle.air_report.proofs.TextLemmas.{counts_spelled, event_spelled, glance_spelled, look_spelled, verdict_spelled}
 
--- An attempt of the deck ends as it may.
+-- An attempt of the deck ends as it may end.
 ended_so : (deck : Deck) (x : VerdictLine) → is_tried deck x ≡ true → may_end deck.settings.version x.verdict.kind ≡ true
 ended_so deck x h = (and_parts _ _ h).1
 
@@ -36,7 +36,7 @@ abbrev by_parts : List EventLine → List VerdictLine → List CountsLine → Li
 by_parts es vs cs gs ls = record { events = es; verdicts = vs; counts = cs; glances = gs; looks = ls }
 
 module _ (deck : Deck) where
-  -- The rows are without fault, and spell these lines.
+  -- The rows have no fault, and spell these lines.
   pub record Stands (rows : List (List (List ℕ))) (r : ReportLines) : Type 0 where
     pub faultless : NoneBefore (line_kinds_at deck rows) (length rows)
     pub sections : sections_of (spelled_lines deck.settings.version rows) ≡ r

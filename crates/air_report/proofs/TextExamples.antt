@@ -92,7 +92,7 @@ two_kinds : line_kinds_at deck (look0 ∷ accept0 ∷ []) 1 ≡ 4 ∷ 7 ∷ []
 unfolding line_kinds_at spelled_read spelled_place spelled_item short_of number_of all_some
 two_kinds = refl
 
--- An aged attempt is told where buckets have ages.
+-- An aged attempt has a line if buckets have ages.
 aged_untold : line_kinds_at deck (start ∷ aged0 ∷ []) 1 ≡ 3 ∷ []
 unfolding line_kinds_at spelled_read spelled_place spelled_item short_of number_of all_some
 aged_untold = refl

@@ -122,7 +122,7 @@ ended_spelled version (kind.Abort item cycle clash) line w same may =
 pub verdict_spelled : (version : ℕ) (line : VerdictLine) → VerdictWide line → may_end version line.verdict.kind ≡ true → spelled_line version (verdict_row line) ≡ Ok (l.Verdict line)
 verdict_spelled version line w may = ended_spelled version line.verdict.kind line w refl may
 
--- An aged attempt has no tag where buckets have no ages.
+-- An aged attempt has no tag if buckets have no ages.
 pub aged_untold : (version item cycle : ℕ) (line : VerdictLine) → line.verdict.kind ≡ kind.Aged item cycle → has_ages version ≡ false → spelled_line version (verdict_row line) ≡ Err fault.Tag
 aged_untold version item cycle line same full = rw (same, full) refl
 

@@ -1,6 +1,6 @@
--- A text spells a report exactly if its records spell the report's lines, and has the fault that the reader tells.
+-- A text spells a report if and only if its records spell the report's lines, and it has the fault that the reader answers.
 --
--- `spelled_report` and `report_lines` are the two ways for reports, `told_fault` and `fault_told` for faults.
+-- `spelled_report` and `report_lines` are the two directions for reports, `told_fault` and `fault_told` those for faults.
 use Rattle.std.proofs.Common.{◌≡◌, ◌+◌, ◌++◌, ◌∷◌, ◌∙◌, ◌⊎◌, [], ℕ, List, Option, Some, None, inl, inr, refl, sym, ap, subst, append_assoc, length, map, arith}
 use Rattle.air_model.specs.Decks.{Deck}
 use Rattle.air_model.specs.Reports.{Report, report_rows, report_text}
@@ -59,7 +59,7 @@ module _ (deck : Deck) where
   unfolding report_text
   printed_spells r is = record { rows = written_rows (report_rows r) (plain_report r); report = is }
 
-  -- The text of a report whose numbers fit their types and whose lines are in the grammar spells these lines, whatever updates its commits have.
+  -- The text of a report whose numbers fit their types and whose lines are in the grammar spells these lines, regardless of its commits' updates.
   pub printed_lines : (r : Report) → HasWidths r → InGrammar deck (lines_in r) → SpellsLines deck (report_text r) (lines_in r)
   unfolding SpellsLines report_text
   printed_lines r wide right =
@@ -77,7 +77,7 @@ module _ (deck : Deck) where
 
   -- ---- faults
 
-  -- The reader stands behind records without fault, and tells a kind of the next.
+  -- The reader is after records without fault, and answers a kind for the next one.
   pub told_after : (text : List ℕ) (rows : List Row) → NoneBefore (line_kinds_at deck rows) (length rows) → (row : Row) (left : List Row) (kind : ReportFaultKind) → records_of text ≡ rows ++ row ∷ left
       → line_record_kind deck (sections_of (spelled_lines deck.settings.version rows)) (spelled_line deck.settings.version row) ≡ Some kind → HasReportFault deck text (length rows + 1) (report_kind_number kind)
   told_after text rows before row left kind all h =
@@ -97,7 +97,7 @@ module _ (deck : Deck) where
         least = least.least;
       }
 
-  -- The fault that a text has is the one that the reader tells.
+  -- The fault that a text has is the one that the reader answers.
   pub fault_told : (text : List ℕ) (row kind : ℕ) → HasReportFault deck text row kind → HasLineFault deck text row kind
   fault_told text row kind f = by (line_record_kind deck (lines_in f.before) (spelled_line deck.settings.version f.faulty)) refl
     where
@@ -111,7 +111,7 @@ module _ (deck : Deck) where
           let read = read_fault deck text (report_rows f.before) s.faultless f.faulty f.behind told f.records (ap (λ r. line_record_kind deck r (spelled_line deck.settings.version f.faulty)) s.sections ∙ e) in
           subst (λ k. HasLineFault deck text row k) same (subst (λ r. HasLineFault deck text r (report_kind_number told)) (sym f.row_number_is) read)
 
-  -- What the reader comes to: the lines of all records, or the first fault.
+  -- The result of reading: the lines of all records, or the first fault.
   abbrev pub Found : List ℕ → Type 0
   Found text = (row : ℕ) × (kind : ℕ) × HasLineFault deck text row kind × HasReportFault deck text row kind
 
@@ -142,7 +142,7 @@ module _ (deck : Deck) where
         one_kind kinds places first.0 second.0 kind1 kind2 first.2 second.2,
       )
 
-  -- And the one that the reader tells is the text's.
+  -- The fault that the reader answers is the text's.
   pub told_fault : (text : List ℕ) (row kind : ℕ) → HasLineFault deck text row kind → HasReportFault deck text row kind
   told_fault text row kind old = elim (spells_or_faulty text) [
     | inl spelled ↦ absurd (lines_or_fault text spelled.0 row kind spelled.1 old)

@@ -1,4 +1,4 @@
--- What a report that was read keeps to: the condition of its audit.
+-- What holds of a report that was read. The audit of a report requires it.
 use Rattle.std.specs.Prelude.{◌≡◌, ◌≤◌, ◌+◌, List, length}
 use Rattle.air_history.specs.Histories.{starts}
 use Rattle.air_model.specs.Decks.{Deck, IsLegal}
@@ -6,12 +6,12 @@ use Rattle.air_report.specs.ReportRules.{CyclesBegun, IsKnown}
 use Rattle.air_report.specs.declared.reading.limits.TheConstants.{MOST_REPORT_BYTES}
 use Rattle.air_report.specs.declared.reading.ReadReport.{ReadReport}
 
--- A list has no more members than any text that is read has records: of each byte one, and one at its end.
+-- A list has at most as many members as a text of the greatest length has records: one for each byte, and one at the end.
 abbrev pub IsFew : {L : Type 0} → List L → Type 0
 IsFew lines = length lines ≤ MOST_REPORT_BYTES + 1
 
--- A report's history is legal for the deck, its lines name what the deck has and cycles that began, and it has as many rows as lines, and few
--- of each.
+-- A report's history is legal for the deck, its lines name what the deck has and cycles that began, and it has one row number for each line, and few
+-- lines of each section.
 pub record KeepsGrammar (deck : Deck) (read : ReadReport) : Type 0 where
   pub legal : IsLegal deck read.report.history
   pub known : IsKnown deck read.report

@@ -1,4 +1,4 @@
--- The numbers of the kinds of a report's fault: of those that apply to a record, the one of the least number is told.
+-- The numbers of the kinds of a report's fault. If several kinds apply to a record, the one with the least number is answered.
 use Rattle.std.specs.Prelude.{ℕ}
 use Rattle.air_report.specs.declared.reading.kinds.ReportFaultKind.{ReportFaultKind}
 use Rattle.air_report.specs.declared.reading.kinds.ReportFaultKind.TheVariants as fault

@@ -2,7 +2,6 @@ pub mod ReadReports
 pub mod KeptReports
 pub mod Private
 pub mod RowWriters
-pub mod BegunRows
 pub mod Statuses
 pub mod Kinds
 pub mod LineTexts
@@ -12,4 +11,3 @@ pub mod ReportGrammar
 pub mod LineFaults
 pub mod LineGrammar
 pub mod LineRules
-pub mod RecordRows

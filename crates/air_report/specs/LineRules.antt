@@ -1,4 +1,4 @@
--- What the lines of a report keep to: the widths of their numbers, and the grammar against a deck.
+-- The rules of a report's lines: the widths of their numbers, and the grammar against a deck.
 use Rattle.std.specs.Prelude.{◌≡◌, ◌<◌, ◌^◌, ◌++◌, ℕ, List, [], ◌∷◌, true, All, ⊤}
 use Rattle.air_model.specs.Decks.{Deck}
 use Rattle.air_report.specs.LineFaults.{is_begun, is_known, is_next}
@@ -26,17 +26,17 @@ pub record LinesWide (r : ReportLines) : Type 0 where
 
 -- ---- the grammar
 
--- Each commit is its updater's next after these and those before it.
+-- Each commit of the list is its updater's next, after `before` and the lines of the list before it.
 abbrev pub EachNext : Deck → List EventLine → List EventLine → Type 0
 EachNext deck before [] = ⊤
 EachNext deck before (line ∷ lines) = (is_next deck before line ≡ true) × EachNext deck (before ++ line ∷ []) lines
 
--- What a line names is the deck's, and its cycles are among so many.
+-- What a line names is the deck's, and its cycles are among the first `starts`.
 pub record IsRight (deck : Deck) (starts : ℕ) (line : ReportLine) : Type 0 where
   pub known : is_known deck line ≡ true
   pub begun : is_begun starts line ≡ true
 
--- The lines of a report are in the grammar, where all starts stand before the lines of the other sections.
+-- The lines of a report are in the grammar. All its starts come before the lines of the other sections, as the history is the first section.
 pub record InGrammar (deck : Deck) (r : ReportLines) : Type 0 where
   pub events : EachNext deck [] r.events
   pub verdicts : All (λ line. IsRight deck (starts_in r.events) (Verdict line)) r.verdicts

@@ -1,7 +1,7 @@
 -- What a record of a report spells by itself: a line, or the kind of its fault.
 --
--- Three kinds need no other record, and of the deck its version alone: those of the number of fields, of the form of a field and of the tag.
--- Where buckets have ages `aged` is a tag. Every other kind is asked of a line, so a record that spells none has the one kind told here.
+-- Three kinds depend on the record alone and the deck's version: a wrong number of fields, a field that isn't of its form, and an unknown tag. `aged`
+-- is a tag if buckets have ages. Every other kind is a test of a line, so a record that spells no line has just the kind given here.
 use Rattle.std.specs.Prelude.{◌^◌, ℕ, List, [], ◌∷◌, Option, Some, None, Result, Ok, Err, codes, nat_lt, if◌then◌else◌}
 use Rattle.air_base.specs.Numbers.{number_of}
 use Rattle.air_base.specs.NumberLists.{list_of}
@@ -22,7 +22,7 @@ use Rattle.air_report.specs.declared.reading.lines.EventLine.TheVariants.{Commit
 use Rattle.air_report.specs.declared.reading.lines.ReportLine.{ReportLine}
 use Rattle.air_report.specs.declared.reading.lines.ReportLine.TheVariants.{Event, Verdict, Counts, Glance, Look}
 
--- A number, where it is below a bound.
+-- A number, if it is below a bound.
 abbrev pub below : ℕ → Option ℕ → Option ℕ
 below bound None = None
 below bound (Some n) = if nat_lt n bound then Some n else None
@@ -31,7 +31,7 @@ below bound (Some n) = if nat_lt n bound then Some n else None
 unfoldable pub spelled_item : List ℕ → Option ℕ
 spelled_item text = below (2 ^ 16) (number_of text)
 
--- The cycle that a text spells, or the number of an updater, an update, a reader, a query, an attempt or a monitor: one of 32 bits.
+-- The number of 32 bits that a text spells: a cycle, or the number of an updater, an update, a reader, a query, an attempt or a monitor.
 unfoldable pub short_of : List ℕ → Option ℕ
 short_of text = below (2 ^ 32) (number_of text)
 
@@ -68,7 +68,7 @@ abort_of place clash = do
   c ← spelled_item clash
   Some (kind.Abort p.0 p.1 c)
 
--- The end of an attempt whose next read lies too far from those before it: that read.
+-- The end of an attempt whose next read is too far from those before it: that read.
 abbrev pub aged_of : List ℕ → Option VerdictKind
 aged_of place = do
   p ← spelled_place place
@@ -87,7 +87,7 @@ abbrev pub start_by : List (List ℕ) → Result ReportLine ReportFaultKind
 start_by [] = Ok (Event Start)
 start_by (field ∷ fields) = Err fault.Fields
 
--- `accept,<reader>,<query>,<attempt>,<reads>`, and likewise `unfinished`
+-- `accept,<reader>,<query>,<attempt>,<reads>`, and the same after `unfinished`
 abbrev pub ended_by : VerdictKind → Option (List ℕ × List ℕ × List ℕ × List ℕ) → Result ReportLine ReportFaultKind
 ended_by end None = Err fault.Fields
 ended_by end (Some f) = or_fault fault.Form (verdict_by (Some end) f.0 f.1 f.2 f.3)
@@ -118,7 +118,7 @@ counts_by (Some f) = or_fault fault.Form (do
     counts = record { opened = opened; dozed = dozed; late = late; refused = refused; foreign = foreign; copied = copied };
   })))
 
--- `glance,<monitor>,<cycle>,<total>`, and likewise `look`
+-- `glance,<monitor>,<cycle>,<total>`, and the same after `look`
 abbrev pub seen_by : Option (List ℕ × List ℕ × List ℕ) → Result LookLine ReportFaultKind
 seen_by None = Err fault.Fields
 seen_by (Some f) = or_fault fault.Form (do
@@ -127,11 +127,11 @@ seen_by (Some f) = or_fault fault.Form (do
   total ← number_of f.2
   Some (record { monitor = monitor; cycle = cycle; total = total }))
 
--- The tag `aged`, where the version has it.
+-- The tag `aged`, if the version has it.
 abbrev pub aged_tag : ℕ → Option LineTag
 aged_tag version = if has_ages version then Some t.Aged else None
 
--- The tag of this name, if the version has one.
+-- The tag with this name, if the version has it.
 abbrev pub line_tag : ℕ → List ℕ → Option LineTag
 line_tag version text =
     if text is codes "commit" then Some t.Commit
@@ -145,7 +145,7 @@ line_tag version text =
     else if text is codes "aged" then aged_tag version
     else None
 
--- What is spelled, as a line.
+-- The line of what is spelled, or its kind of fault.
 abbrev pub as_line : {A : Type 0} → (A → ReportLine) → Result A ReportFaultKind → Result ReportLine ReportFaultKind
 as_line f (Err kind) = Err kind
 as_line f (Ok x) = Ok (f x)

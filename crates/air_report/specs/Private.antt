@@ -1,5 +1,6 @@
--- Definitions that private steps alone speak of: no public contract cites them, nor what a public type shows.
+-- Definitions of private steps: no public contract cites them.
 pub mod ReportsOfLines
 pub mod RecordAnswers
 pub mod LeadingReads
 pub mod ReportFields
+pub mod BegunRows

@@ -1,12 +1,11 @@
--- What is read of a report's text: the report, and the row of each of its verdict, glance and look lines.
+-- What reading a report's text gives: the report, and the row number of each of its verdict, glance and look lines.
 use Rattle.std.specs.Prelude.{◌≡◌, ◌+◌, ℕ, List, length}
 use Rattle.std.specs.List.{range_with_len}
 use Rattle.air_model.specs.Decks.{Deck}
 use Rattle.air_report.specs.ReportGrammar.{SpellsReport}
 use Rattle.air_report.specs.declared.reading.ReadReport.{ReadReport}
 
--- The text spells the report against the deck, and the rows are those in which its verdicts, its glances and its looks stand. Rows are
--- counted from 1.
+-- The text spells the report against the deck, and the row numbers are those of its verdicts, its glances and its looks, counted from 1.
 pub record IsReportOf (deck : Deck) (text : List ℕ) (read : ReadReport) : Type 0 where
   pub spelled : SpellsReport deck text read.report
   pub verdict_rows : read.verdict_rows ≡ range_with_len (1 + length read.report.history) (length read.report.verdicts)

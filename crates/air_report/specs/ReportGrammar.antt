@@ -1,8 +1,8 @@
--- Which report a text spells, and which fault it has: by the rows that are printed of reports.
+-- Which report a text spells, and which fault it has: by the rows that a report is printed as.
 --
--- A text spells a report of a deck where its records are the rows of the report. Else its first rows are those of a report of the deck,
--- and behind them stands a row to which some kind of fault applies. The least of these kinds is told. By the laws of `laws/reading` a text
--- either spells one report of a deck or has one fault.
+-- A text spells a report of a deck if its records are the rows of the report. Else its first records are the rows of a report of the deck, and some
+-- kind of fault applies to the next record. The least of these kinds is the fault. By the laws of `laws/reading` a text either spells one report of a
+-- deck or has one fault.
 use Rattle.std.specs.Prelude.{◌≡◌, ◌≢◌, ◌+◌, ◌≤◌, ◌++◌, ℕ, List, [], ◌∷◌, Option, None, Some, codes, get_or, if◌then◌else◌, length, option_map, ⊤}
 use Rattle.std.specs.List.{find}
 use Rattle.air_history.specs.Histories.{starts}
@@ -25,23 +25,23 @@ pub record SpellsReport (deck : Deck) (text : List ℕ) (r : Report) : Type 0 wh
 
 -- ---- rows
 
--- How many fields the rows of each tag of a version have: `aged` is one where buckets have ages.
+-- The number of fields in the rows of each tag of a version: `aged` is a tag if buckets have ages.
 abbrev pub row_lengths : ℕ → List (List ℕ × ℕ)
 row_lengths version = (codes "commit", 3) ∷ (codes "start", 1) ∷ (codes "accept", 5) ∷ (codes "abort", 7) ∷ (codes "unfinished", 5)
     ∷ (codes "counts", 8) ∷ (codes "glance", 4) ∷ (codes "look", 4) ∷ (if has_ages version then (codes "aged", 6) ∷ [] else [])
 
--- How many fields a row is to have: its first field is its tag.
+-- The number of fields that a record must have: its first field is its tag.
 abbrev pub due_length : ℕ → List (List ℕ) → Option ℕ
-due_length version row = option_map (λ (pair : List ℕ × ℕ). pair.1) (find (λ (pair : List ℕ × ℕ). get_or row 0 [] is pair.0) (row_lengths version))
+due_length version fields = option_map (λ (pair : List ℕ × ℕ). pair.1) (find (λ (pair : List ℕ × ℕ). get_or fields 0 [] is pair.0) (row_lengths version))
 
--- A line of a row is a report that has this row alone, and whose numbers fit their types.
-pub record IsLineOf (row : List (List ℕ)) (line : Report) : Type 0 where
-  pub rows : report_rows line ≡ row ∷ []
-  pub widths : HasWidths line
+-- The record is the only row of the report, whose numbers fit their types.
+pub record IsOneRow (fields : List (List ℕ)) (one : Report) : Type 0 where
+  pub rows : report_rows one ≡ fields ∷ []
+  pub widths : HasWidths one
 
--- No line of the row is so.
-abbrev pub NoLine : List (List ℕ) → (Report → Type 0) → Type 0
-NoLine row P = (line : Report) → IsLineOf row line → P line → ⊥
+-- No report with the record as its only row satisfies P.
+abbrev pub NoSuchReport : List (List ℕ) → (Report → Type 0) → Type 0
+NoSuchReport fields P = (one : Report) → IsOneRow fields one → P one → ⊥
 
 -- ---- faults
 
@@ -55,18 +55,19 @@ joined r s = record {
   looks = r.looks ++ s.looks;
 }
 
--- The kinds of fault that apply to a row behind the rows of a report. Where no line has the row, those that ask for one apply too.
+-- The kinds of fault that apply to a record after the rows of a report. If the record is no row of a report, every kind defined by `NoSuchReport`
+-- applies.
 abbrev pub Applies : Deck → Report → List (List ℕ) → ReportFaultKind → Type 0
-Applies deck before row fault.Fields = (due_length deck.settings.version row ≢ None) × (due_length deck.settings.version row ≢ Some (length row))
-Applies deck before row fault.Form = (due_length deck.settings.version row ≢ None) × NoLine row (λ line. ⊤)
-Applies deck before row fault.Tag = due_length deck.settings.version row ≡ None
-Applies deck before row fault.Order = NoLine row (λ line. report_rows (joined before line) ≡ report_rows before ++ report_rows line)
-Applies deck before row fault.Update = NoLine row (λ line. IsLegal deck (before.history ++ line.history))
-Applies deck before row fault.Deck = NoLine row (IsKnown deck)
-Applies deck before row fault.Cycle = NoLine row (CyclesBegun (starts before.history))
+Applies deck before fields fault.Fields = (due_length deck.settings.version fields ≢ None) × (due_length deck.settings.version fields ≢ Some (length fields))
+Applies deck before fields fault.Form = (due_length deck.settings.version fields ≢ None) × NoSuchReport fields (λ one. ⊤)
+Applies deck before fields fault.Tag = due_length deck.settings.version fields ≡ None
+Applies deck before fields fault.Order = NoSuchReport fields (λ one. report_rows (joined before one) ≡ report_rows before ++ report_rows one)
+Applies deck before fields fault.Update = NoSuchReport fields (λ one. IsLegal deck (before.history ++ one.history))
+Applies deck before fields fault.Deck = NoSuchReport fields (IsKnown deck)
+Applies deck before fields fault.Cycle = NoSuchReport fields (CyclesBegun (starts before.history))
 
--- The records of the text before the one of this row number are the rows of a report of the deck, and this is the number of the least kind
--- that applies to that one.
+-- The records of the text before the one with this row number are the rows of a report of the deck, and this is the number of the least kind that
+-- applies to that record.
 pub record HasReportFault (deck : Deck) (text : List ℕ) (row_number kind_number : ℕ) : Type 0 where
   pub before : Report
   pub faulty : List (List ℕ)
@@ -79,7 +80,7 @@ pub record HasReportFault (deck : Deck) (text : List ℕ) (row_number kind_numbe
   pub applies : Applies deck before faulty which
   pub least : (other : ReportFaultKind) → Applies deck before faulty other → kind_number ≤ report_kind_number other
 
--- A fault that is answered is the text's; no memory has no cause.
+-- A fault that is answered is the text's. Out of memory, nothing is said.
 abbrev pub IsReportAnswer : Deck → List ℕ → ReportError → Type 0
 IsReportAnswer deck text (error.Fault row kind) = HasReportFault deck text row kind
 IsReportAnswer deck text error.NoMemory = ⊤

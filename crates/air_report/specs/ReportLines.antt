@@ -22,27 +22,27 @@ pub record ReportLines : Type 0 where
   pub glances : List LookLine
   pub looks : List LookLine
 
--- The line, where it is one of the history.
+-- The line, if it is one of the history.
 abbrev pub its_event : ReportLine → Option EventLine
 its_event (l.Event line) = Some line
 its_event line = None
 
--- The line, where it is one of verdicts.
+-- The line, if it is one of verdicts.
 abbrev pub its_verdict : ReportLine → Option VerdictLine
 its_verdict (l.Verdict line) = Some line
 its_verdict line = None
 
--- The line, where it is one of counts.
+-- The line, if it is one of counts.
 abbrev pub its_counts : ReportLine → Option CountsLine
 its_counts (l.Counts line) = Some line
 its_counts line = None
 
--- The line, where it is one of glances.
+-- The line, if it is one of glances.
 abbrev pub its_glance : ReportLine → Option LookLine
 its_glance (l.Glance line) = Some line
 its_glance line = None
 
--- The line, where it is one of looks.
+-- The line, if it is one of looks.
 abbrev pub its_look : ReportLine → Option LookLine
 its_look (l.Look line) = Some line
 its_look line = None
@@ -75,7 +75,7 @@ commits_by by events = count_by (commits_of by) events
 abbrev pub starts_in : List EventLine → ℕ
 starts_in events = count_by starts_cycle events
 
--- The event that a line names: its update is the deck's.
+-- The event that a line names: a commit has the deck's update.
 abbrev pub event_in : Deck → EventLine → Event
 event_in deck (Commit by seq) = e.Commit by seq (update_at deck by seq)
 event_in deck Start = e.Start

@@ -1,5 +1,4 @@
--- What a report of a deck may say: numbers that fit their types, a legal history, and lines that name what the deck has and cycles
--- that began.
+-- What a report of a deck may say: numbers that fit their types, a legal history, and lines that name what the deck has and cycles that began.
 use Rattle.std.specs.Prelude.{◌<◌, ◌≤◌, ◌^◌, ℕ, All, IsTrue, length, ⊤}
 use Rattle.air_base.specs.declared.verdicts.ReadOf.{ReadOf}
 use Rattle.air_base.specs.declared.verdicts.VerdictKind.{VerdictKind}
@@ -11,7 +10,7 @@ use Rattle.air_model.specs.Buckets.{has_ages}
 use Rattle.air_model.specs.Decks.{Deck, IsLegal}
 use Rattle.air_model.specs.Reports.{Report}
 use Rattle.air_model.specs.SessionLaws.{IsAged, IsOfReader, decided_on, reads_at}
-use Rattle.air_model.specs.Sessions.{Line, reader_of}
+use Rattle.air_model.specs.Sessions.{SessionLine, reader_of}
 use Rattle.air_model.specs.declared.reports.CountsLine.{CountsLine}
 use Rattle.air_model.specs.declared.reports.LookLine.{LookLine}
 use Rattle.air_model.specs.declared.reports.VerdictLine.{VerdictLine}
@@ -29,7 +28,7 @@ pub record ReadWide (r : ReadOf) : Type 0 where
   pub cycle : r.cycle < 2 ^ 32
   pub value : r.value < 2 ^ 64
 
--- The same of a read that was refused or lay too far from the others, and of the item with which it clashed.
+-- The same holds of a read that was refused or was too far from the others, and of the item with which it clashed.
 abbrev pub EndWide : VerdictKind → Type 0
 EndWide Accept = ⊤
 EndWide (Abort item cycle clash) = (item < 2 ^ 16) × (cycle < 2 ^ 32) × (clash < 2 ^ 16)
@@ -70,26 +69,26 @@ pub record HasWidths (r : Report) : Type 0 where
 
 -- ---- the deck
 
--- The line of a session that a verdict's line tells.
-abbrev pub its_attempt : VerdictLine → Line
+-- The session line that a verdict line says.
+abbrev pub its_attempt : VerdictLine → SessionLine
 its_attempt l = record { verdict = l.verdict; reads = l.reads }
 
--- An attempt ends aged only where buckets have ages.
+-- An attempt ends aged only if buckets have ages.
 abbrev pub MayEnd : ℕ → VerdictKind → Type 0
 MayEnd version kind = IsAged kind → IsTrue (has_ages version)
 
--- The verdict is on an attempt of one of the deck's readers, which may end so.
+-- The verdict is on an attempt of one of the deck's readers, with an end that it may have.
 abbrev pub IsTried : Deck → VerdictLine → Type 0
 IsTried deck l = (l.reader < length deck.readers) × IsOfReader (reader_of deck l.reader) (its_attempt l) × MayEnd deck.settings.version l.verdict.kind
 
--- What lines name, beside updates and cycles, is the deck's.
+-- What lines name, except for updates and cycles, is the deck's.
 pub record IsKnown (deck : Deck) (r : Report) : Type 0 where
   pub verdicts : All (IsTried deck) r.verdicts
   pub counts : All (λ l. l.reader < length deck.readers) r.counts
   pub glances : All (λ l. l.monitor < deck.settings.monitors) r.glances
   pub looks : All (λ l. l.monitor < deck.settings.monitors) r.looks
 
--- Each cycle that lines name is one of the first so many; a monitor may also have seen the catalog, as cycle 0.
+-- Each cycle that lines name is one of the first `starts`; a monitor may also have seen the catalog, as cycle 0.
 pub record CyclesBegun (starts : ℕ) (r : Report) : Type 0 where
   pub verdicts : All (λ l. All (λ read. (1 ≤ read.cycle) × (read.cycle ≤ starts)) (decided_on l.verdict.kind (reads_at (its_attempt l)))) r.verdicts
   pub glances : All (λ l. l.cycle ≤ starts) r.glances
@@ -97,7 +96,7 @@ pub record CyclesBegun (starts : ℕ) (r : Report) : Type 0 where
 
 -- ---- a report
 
--- It may be a report of the deck.
+-- The report says only what a report of the deck may say.
 pub record IsReport (deck : Deck) (r : Report) : Type 0 where
   pub widths : HasWidths r
   pub legal : IsLegal deck r.history

@@ -5,7 +5,7 @@ use Rattle.air_model.specs.Rows.{rows_text}
 use Rattle.air_report.specs.declared.status.Status.{Status}
 use Rattle.air_report.specs.declared.status.Status.TheVariants as status
 
--- The numbers of a status: its own, and then a row number and a kind number, a byte, a limit or a size.
+-- The numbers of a status: its own, and then, if it has them, a row number and a kind number, a byte, a limit or a size.
 abbrev pub status_numbers : Status → List ℕ
 status_numbers status.Ok = 0 ∷ []
 status_numbers status.Words = 1 ∷ []
@@ -22,11 +22,11 @@ status_numbers (status.TooMuch product) = 11 ∷ product ∷ []
 status_numbers (status.TooLong bytes) = 12 ∷ bytes ∷ []
 status_numbers (status.PlanTooLong slots) = 13 ∷ slots ∷ []
 
--- The number of a status, with which the program ends.
+-- The number of the status: the exit status of the program.
 abbrev pub status_number : Status → ℕ
 status_number status = get_or (status_numbers status) 0 0
 
--- A command that ran to its end, with or without lines that differ, that was out of memory, or that could not write tells no fault.
+-- Whether the status is a fault. It isn't if the command ran to its end, whether lines differed or not, was out of memory or could not write.
 abbrev pub tells_fault : Status → Bool
 tells_fault status.Ok = false
 tells_fault status.WriteFault = false
@@ -34,10 +34,10 @@ tells_fault status.NoMemory = false
 tells_fault status.Differs = false
 tells_fault other = true
 
--- The fault line of some numbers.
+-- The fault line with these numbers.
 abbrev pub fault_line : List ℕ → List ℕ
 fault_line numbers = rows_text ((codes "fault" ∷ map number_text numbers) ∷ [])
 
--- The line that a status prints, if it tells a fault.
+-- The line that a status prints; empty if the status is no fault.
 abbrev pub status_line : Status → List ℕ
 status_line status = if tells_fault status then fault_line (status_numbers status) else []

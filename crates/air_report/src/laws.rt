@@ -1,4 +1,4 @@
-//! The law of reports both ways: what is written is read back. It is carried by a function that does nothing.
+//! The law of reports both ways: what is written is read back. Its body is empty.
 
 ghost use Rattle.std.specs.Prelude.{◌≡◌, ℕ};
 ghost use Rattle.air_model.specs.Decks.{Deck};
@@ -13,8 +13,8 @@ ghost use Rattle.air_report.specs.ReadReports.{IsReportOf};
 pub(crate) mod reading;
 pub mod texts;
 
-/// The text of a report whose numbers fit their types and whose lines are in the grammar has no fault, whatever updates its commits have.
-/// What is read of the text of a report of a deck is this very report, its updates too.
+/// The text of a report whose numbers fit their types and whose lines are in the grammar has no fault, regardless of its commits' updates. The text
+/// of a report of a deck reads back as this very report, its updates included.
 pub fn read_back_law()
     ensures faultless { (deck : Deck) (report : Report) → HasWidths report → InGrammar deck (lines_in report) →
         (row_number kind_number : ℕ) → HasReportFault deck (report_text report) row_number kind_number → ⊥ }

@@ -1,9 +1,9 @@
 //! Reports as texts, both ways, and the line of a refusal.
 //!
-//! `write_report` appends the text of a report (`writing`). `read_report` reads one back against a deck: `reading` reads its lines
-//! record by record, or tells the first faulty one with its least kind, and makes the report of them, whose commits have the deck's
-//! updates. `laws` says that a text spells one report or has one fault, and that what is written is read back. `status` has what a
-//! command ends with, and the line that it prints of a refusal.
+//! `write_report` appends the text of a report (`writing`). `read_report` reads a text against a deck (`reading`): it reads the lines record by
+//! record, and makes the report of them with the deck's updates in its commits, or answers the first faulty record with its least kind. `laws` says
+//! that a text either spells one report or has one fault, and that what is written is read back. `status` has how a command ended, and the line that
+//! it prints for a refusal.
 #![tactic(auto)]
 
 pub mod laws;

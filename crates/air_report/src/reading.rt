@@ -1,4 +1,4 @@
-//! Reports read from texts, with the rows of their lines.
+//! Reports read from texts, with the row numbers of their lines.
 
 ghost use Rattle.std.specs.Prelude.{◌≡◌, ◌+◌, ◌≤◌, ◌^◌, length, IfErr, IfOk};
 ghost use Rattle.std.specs.List.{range_with_len};
@@ -32,7 +32,7 @@ use air_history::History;
 use item_catalog::Deck;
 use std::alloc::Global;
 
-/// A report that was read, and the row of each of its verdict, glance and look lines, counted from 1.
+/// A report that was read, and the row number of each of its verdict, glance and look lines, counted from 1.
 #[derive(Debug, Drop)]
 pub struct ReadReport {
     pub report: Report,
@@ -41,7 +41,7 @@ pub struct ReadReport {
     pub look_rows: Rows,
 }
 
-/// The report of the deck that a text spells, or the first faulty record of the text with the least kind that applies there.
+/// The deck's report that a text spells, or the row number of the first faulty record with the least kind that applies to it.
 pub fn read_report(alloc: Global, deck: &Deck, bytes: &[u8]) -> Result<ReadReport, ReportError>
     requires limit { length bytes.now ≤ MOST_REPORT_BYTES }
     ensures report { IfOk result (IsReportOf deck.now bytes.now) }
@@ -53,7 +53,7 @@ pub fn read_report(alloc: Global, deck: &Deck, bytes: &[u8]) -> Result<ReadRepor
     Ok(report)
 }
 
-/// The report that lines stand for, with the rows in which they stand: section by section, a row each.
+/// The report that lines stand for, and the row numbers of its verdict, glance and look lines.
 fn report_of(
     alloc: Global,
     deck: &Deck,
@@ -92,7 +92,7 @@ fn report_of(
     })
 }
 
-/// So many rows from this one on.
+/// `count` consecutive row numbers, from `first` on.
 fn rows_from(alloc: Global, first: u32, count: usize) -> Result<Rows, NoMemory>
     requires { first + count ≤ 2 ^ 31 }
     ensures { IfOk result (λ rows. rows ≡ range_with_len first count) }

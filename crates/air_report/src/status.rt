@@ -1,4 +1,4 @@
-//! How a command ended, and the number with which the program then ends.
+//! How a command ended, and the exit status of the program.
 
 ghost use Rattle.std.specs.Prelude.{◌≡◌};
 ghost use Rattle.air_report.specs.Statuses.{status_number};
@@ -12,7 +12,7 @@ use air_base::NoMemory;
 pub enum Status {
     /// The command ran to its end.
     Ok,
-    /// The words are of no form.
+    /// The words are not a valid command.
     Words,
     /// The deck has a fault in this record, of this kind.
     Deck { row: u32, kind: u8 },
@@ -30,13 +30,13 @@ pub enum Status {
     Report { row: u32, kind: u8 },
     /// A finding of the audit differs.
     Differs,
-    /// The mast or the ear failed after so many buckets.
+    /// The mast or the ear failed after this number of buckets.
     AirFault { at: u64 },
-    /// There would be too much to go over: the commits of an audit times its lines, or for a split its items times themselves times its disks.
+    /// The work would be too much: for an audit its commits times its lines, for a split its items times its items times its disks.
     TooMuch { product: u64 },
-    /// The tape would have so many bytes.
+    /// The tape would have this number of bytes.
     TooLong { bytes: u64 },
-    /// The program would have this number of slots, or that split of the deck which has the fewest.
+    /// The program would have this number of slots; for a split, even the one with the fewest slots would.
     PlanTooLong { slots: u64 },
 }
 
@@ -52,7 +52,7 @@ impl From<NoMemory> for Status {
 }
 
 impl Status {
-    /// The number of the status, with which the program ends.
+    /// The number of the status: the exit status of the program.
     pub fn code(&self) -> u8
         ensures { result ≡ status_number self.now }
     {

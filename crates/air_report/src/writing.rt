@@ -1,4 +1,4 @@
-//! A report's text, written: its rows, and the sections that they make.
+//! A report and how its text is written: its rows, and the sections that they make.
 
 pub(crate) mod fields;
 pub(crate) mod report;

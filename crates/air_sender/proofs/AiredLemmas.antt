@@ -2,13 +2,15 @@
 --
 -- What comes later changes no bucket of a started cycle, so the buckets that were sent stay those of the history. The board of
 -- a deck has as many values as the deck has items. The steps of a run cite these.
-use Rattle.std.proofs.Common.{◌≡◌, ℕ, zero, suc, ◌+◌, ◌≤◌, true, false, cond, List, [], ◌∷◌, ◌++◌, Some, length, map, refl, sym, ◌∙◌, ap, subst, inl, inr, arith}
-use Rattle.std.specs.Prelude.{sum_by}
+use Rattle.std.proofs.Common.{◌≡◌, ℕ, zero, suc, ◌+◌, ◌<◌, ◌≤◌, true, false, cond, List, [], ◌∷◌, ◌++◌, Some, length, map, get_or, refl, sym, ◌∙◌, ap, subst, inl, inr, arith, length-append}
+use Rattle.std.specs.Prelude.{IsTrue, sum_by}
+use Rattle.std.specs.Result.{result_ok}
 use Rattle.std.specs.List.{flat_map, range_with_len}
 use Rattle.std.proofs.lemmas.Grind.{flat_map-append}
 use Rattle.std.proofs.lemmas.Bool.{cases_Bool}
-use Rattle.std.proofs.lemmas.List.{append-nil, append_assoc, length-map, map-append}
-use Rattle.std.proofs.lemmas.List.FromFn.{length-map-range_with_len}
+use Rattle.std.proofs.lemmas.List.{append-nil, append_assoc, get_or-append-add, length-map, map-append}
+use Rattle.std.proofs.lemmas.List.Elements.{Contains-get_or}
+use Rattle.std.proofs.lemmas.List.FromFn.{get_or-map-range_with_len, length-map-range_with_len}
 use Rattle.std.proofs.lemmas.List.Sums.{sum_by-append}
 use Rattle.air_history.specs.declared.histories.Event.{Event}
 use Rattle.air_history.specs.declared.histories.Event.TheVariants.{Commit, Start}
@@ -16,23 +18,27 @@ use Rattle.air_history.specs.Histories.{is_start, starts}
 use Rattle.air_history.specs.Boards.{Board, board_of}
 use Rattle.air_history.specs.Tables.{table, values_of}
 use Rattle.air_base.specs.declared.verdicts.Form.{Form}
-use Rattle.air_model.specs.Buckets.{Bucket, most_count, spelling}
-use Rattle.air_model.specs.Aired.{Air, air_of, bucket_of, buckets_of, edition_at, slots_at}
+use Rattle.air_model.specs.Buckets.{Bucket, IsInRange, bucket_in, most_count, spelling}
+use Rattle.air_model.specs.Aired.{Air, air_of, bucket_of, buckets_of, edition_at, fits, slots_at}
+use Rattle.air_model.specs.AiredLaws.{CanAir}
 use Rattle.air_model.specs.Decks.{Deck, IsDeck, disks_in, edition, values_in}
 use Rattle.air_model.specs.Disks.{Disk}
 use Rattle.air_model.specs.Programs.{program}
-use Rattle.air_sender.specs.BoardBuckets.{board_buckets, board_bytes, form_of}
+use Rattle.air_sender.specs.BoardBuckets.{board_buckets, board_bytes, bucket_on, form_of}
 use Rattle.air_sender.proofs.StartedBoards.{OwnCycleLaw}
 use Rattle.air_devices.specs.Masts.{SentBuckets}
 use Rattle.air_sender.specs.AiredBytes.{aired_bytes}
+use Rattle.air_model.proofs.AiredLemmas.{own_buckets}
+use Rattle.air_model.proofs.BucketLemmas.{ok_from_whole, whole_from_bucket}
 use Rattle.air_model.proofs.DeckLemmas.{air}
 use Rattle.air_model.proofs.EditionLemmas.{edition_is, slots_are}
 use Rattle.chunk_program.specs.Editions.{EditionDisks, edition_disks}
 use Rattle.air_model.proofs.LaterLemmas.{later}
+use Rattle.air_model.proofs.RangeLemmas.{range}
 
 -- ---- histories
 
--- An event is a start exactly if the test says so.
+-- An event is a start if and only if the test says so.
 pub start_event : (e : Event) → is_start e ≡ true → e ≡ Start
 unfolding is_start
 start_event (Commit by seq update) e = cc
@@ -100,7 +106,7 @@ module _ (values : List ℕ) (air : Air) where
 
 -- ---- a deck's boards
 
--- What is told twice alike is alike.
+-- Two values that a mast tells are equal if their options are.
 pub told_alike : {s t : SentBuckets} → Some s ≡ Some t → s ≡ t
 told_alike e = cc
 
@@ -110,7 +116,7 @@ values_kept deck board H is =
     let values = values_in deck in
     ap (λ (b : Board). length b.values) is ∙ length-map-range_with_len (table (values_of values) H) 0 (length values) ∙ length-map deck.items (λ i. i.value)
 
--- A deck of version 1 has no more items than a bucket in full tells.
+-- A deck of version 1 has at most as many items as a bucket in full has entries.
 pub few_full : (deck : Deck) → IsDeck deck → (v : ℕ) → v ≡ deck.settings.version → v ≡ 1 → length deck.items ≤ 256
 few_full deck made v own one = subst (λ v. length deck.items ≤ most_count v) (sym own ∙ one) made.most
 
@@ -129,6 +135,20 @@ module _ (deck : Deck) (G : List Event) (e : Event) (board : Board) (is : board 
   own_slots : (disks : List Disk) (c : ℕ) → disks ≡ disks_in deck (edition deck c) → program disks ≡ slots_at (air_of deck) c
   own_slots disks c d = ap program d ∙ sym (slots_are deck c)
 
+  -- the buckets that the board airs are those of the new cycle of the history
+  pub start_buckets : OwnCycleLaw → IsDeck deck → is_start e ≡ true → (form : Form) (p : EditionDisks) → form ≡ form_of (air_of deck) → p ≡ edition_disks deck (edition deck board.cycle)
+      → board_buckets form p.edition (program p.disks) board ≡ buckets_in (values_in deck) (air_of deck) (G ++ Start ∷ []) (starts (G ++ Start ∷ []))
+  start_buckets own made start form p f d =
+      let a = air_of deck in
+      let c = starts (G ++ Start ∷ []) in
+      let slots = program p.disks in
+      let now : board.cycle ≡ c = ap (λ (b : Board). b.cycle) (started_board start) in
+      let disks : p.disks ≡ disks_in deck (edition deck c) = ap (λ (p : EditionDisks). p.disks) d ∙ ap (λ n. disks_in deck (edition deck n)) now in
+      let number : p.edition ≡ edition deck c = ap (λ (p : EditionDisks). p.edition) d ∙ ap (edition deck) now in
+      ap (λ form. board_buckets form p.edition slots board) f ∙ ap (λ e. board_buckets (form_of a) e slots board) (own_edition p.edition c number)
+      ∙ ap (λ xs. board_buckets (form_of a) (edition_at a c) xs board) (own_slots p.disks c disks) ∙ ap (board_buckets (form_of a) (edition_at a c) (slots_at a c)) (started_board start)
+      ∙ own (values_in deck) a G (sym (length-map deck.items (λ i. i.value))) ((air deck made).0)
+
   -- what the board airs is the new cycle of the history
   pub start_aired : OwnCycleLaw → IsDeck deck → is_start e ≡ true → (form : Form) (p : EditionDisks) (before after : List (List ℕ)) → form ≡ form_of (air_of deck) → p ≡ edition_disks deck (edition deck board.cycle)
       → before ≡ aired_bytes deck G → after ≡ before ++ board_bytes form p.edition (program p.disks) board → after ≡ aired_bytes deck (G ++ e ∷ [])
@@ -136,18 +156,33 @@ module _ (deck : Deck) (G : List Event) (e : Event) (board : Board) (is : board 
       let values = values_in deck in
       let a = air_of deck in
       let new = G ++ Start ∷ [] in
-      let c = starts new in
       let slots = program p.disks in
-      let now : board.cycle ≡ c = ap (λ (b : Board). b.cycle) (started_board start) in
-      let disks : p.disks ≡ disks_in deck (edition deck c) = ap (λ (p : EditionDisks). p.disks) d ∙ ap (λ n. disks_in deck (edition deck n)) now in
-      let number : p.edition ≡ edition deck c = ap (λ (p : EditionDisks). p.edition) d ∙ ap (edition deck) now in
-      let cycle : board_buckets form p.edition slots board ≡ buckets_in values a new c =
-      ap (λ form. board_buckets form p.edition slots board) f ∙ ap (λ e. board_buckets (form_of a) e slots board) (own_edition p.edition c number)
-      ∙ ap (λ xs. board_buckets (form_of a) (edition_at a c) xs board) (own_slots p.disks c disks) ∙ ap (board_buckets (form_of a) (edition_at a c) (slots_at a c)) (started_board start)
-      ∙ own values a G (sym (length-map deck.items (λ i. i.value))) ((air deck made).0) in
-      grew ∙ ap (λ l. l ++ board_bytes form p.edition slots board) so_far ∙ ap (λ l. aired_bytes deck G ++ map spelling l) cycle
+      grew ∙ ap (λ l. l ++ board_bytes form p.edition slots board) so_far ∙ ap (λ l. aired_bytes deck G ++ map spelling l) (start_buckets own made start form p f d)
       ∙ sym (map-append spelling (buckets_of values a G) (buckets_in values a new (starts new))) ∙ ap (map spelling) (sym (buckets_start values a G))
       ∙ ap (λ e. aired_bytes deck (G ++ e ∷ [])) (sym (start_event e start))
+
+  -- if the history with the start can be aired, each of these buckets fits, and is what its bytes spell
+  pub start_heard : OwnCycleLaw → CanAir deck (G ++ e ∷ []) → is_start e ≡ true → (form : Form) (p : EditionDisks) → form ≡ form_of (air_of deck) → p ≡ edition_disks deck (edition deck board.cycle)
+      → (s : ℕ) → s < length (program p.disks)
+      → (let b = bucket_on form p.edition (program p.disks) board s in IsTrue (fits (air_of deck) b) × (bucket_in (spelling b) ≡ Some b))
+  start_heard own can start form p f d s l =
+      let values = values_in deck in
+      let a = air_of deck in
+      let new = G ++ Start ∷ [] in
+      let slots = program p.disks in
+      let on : ℕ → Bucket = bucket_on form p.edition slots board in
+      let all = buckets_of values a new in
+      let first = buckets_of values a G in
+      let can_new : CanAir deck new = subst (λ e. CanAir deck (G ++ e ∷ [])) (start_event e start) can in
+      let whole : all ≡ first ++ map on (range_with_len 0 (length slots)) = buckets_start values a G ∙ ap (λ l. first ++ l) (sym (start_buckets own can.made start form p f d)) in
+      let size = length-map-range_with_len on 0 (length slots) in
+      let place : length first + s < length all = omega (arith, l, size, ap length whole, length-append first (map on (range_with_len 0 (length slots)))) in
+      let is : get_or all (length first + s) (on s) ≡ on s =
+      ap (λ l. get_or l (length first + s) (on s)) whole ∙ get_or-append-add first (map on (range_with_len 0 (length slots))) s (on s) ∙ get_or-map-range_with_len on 0 (length slots) s s (on s) l (omega arith) in
+      let in_range : IsInRange (on s) = subst IsInRange is (range deck new can_new (length first + s) (on s) place) in
+      let owned : IsTrue (fits a (on s)) = subst (λ b. IsTrue (fits a b)) is ((own_buckets values a new (get_or all (length first + s) (on s))).0 (Contains-get_or all (length first + s) (on s) place)).0 in
+      let bytes = whole_from_bucket (spelling (on s)) (on s) (in_range, refl) in
+      (owned, ap result_ok (ok_from_whole (spelling (on s)) bytes.0) ∙ ap Some bytes.1)
 
 -- A commit airs nothing.
 pub commit_aired : (deck : Deck) (G : List Event) (e : Event) (sent : List (List ℕ)) → is_start e ≡ false → sent ≡ aired_bytes deck G → sent ≡ aired_bytes deck (G ++ e ∷ [])
@@ -163,10 +198,10 @@ one_aired deck H e = elim (cases_Bool (is_start e)) as (λ _. (rest : List (List
   | inr commit ↦ ([], sym (commit_aired deck H e (aired_bytes deck H) commit refl) ∙ sym (append-nil (aired_bytes deck H)))
 ]
 
--- What the first events of a history air stands in front of what all of them air.
-pub front_aired : (deck : Deck) (H more : List Event) → (rest : List (List ℕ)) × (aired_bytes deck (H ++ more) ≡ aired_bytes deck H ++ rest)
-front_aired deck H [] = ([], ap (aired_bytes deck) (append-nil H) ∙ sym (append-nil (aired_bytes deck H)))
-front_aired deck H (e ∷ more) =
+-- What the first events of a history air is at the beginning of what all of them air.
+pub beginning_aired : (deck : Deck) (H more : List Event) → (rest : List (List ℕ)) × (aired_bytes deck (H ++ more) ≡ aired_bytes deck H ++ rest)
+beginning_aired deck H [] = ([], ap (aired_bytes deck) (append-nil H) ∙ sym (append-nil (aired_bytes deck H)))
+beginning_aired deck H (e ∷ more) =
     let one = one_aired deck H e in
-    let later = front_aired deck (H ++ e ∷ []) more in
+    let later = beginning_aired deck (H ++ e ∷ []) more in
     (one.0 ++ later.0, ap (aired_bytes deck) (sym (append_assoc H (e ∷ []) more)) ∙ later.1 ∙ ap (λ l. l ++ later.0) one.1 ∙ append_assoc (aired_bytes deck H) one.0 later.0)

@@ -14,7 +14,7 @@ use Rattle.chunk_program.proofs.EditionSteps.{slots_of_cycle}
 use Rattle.air_sender.specs.TapeSizes.{cycle_size, tape_size}
 use Rattle.air_sender.proofs.AiredLemmas.{range_more}
 
--- Of k cycles after the first d that are alike each has as much.
+-- Each of the k cycles after the first d adds the same.
 run_sum : (f : ℕ → ℕ) (m d k : ℕ) → ((c : ℕ) → d < c → c ≤ d + k → f c ≡ m) → sum_by f (range_with_len 1 (d + k)) ≡ sum_by f (range_with_len 1 d) + k * m
 run_sum f m d zero same = let none : d + 0 ≡ d = omega arith in ap (λ n. sum_by f (range_with_len 1 n)) none ∙ omega arith
 run_sum f m d (suc k) same =
@@ -55,7 +55,7 @@ module _ (plans : Plans) (cycles e done end : ℕ) (before : (c : ℕ) → 1 ≤
       ∙ ap (λ (q : EditionDisks). cycle_size v n (program q.disks)) (get_or_from_slice_get plans.programs e p no_disks at) ∙ sym is in
       ap (tape_size v n (planned_slots plans)) whole ∙ run_sum (λ c. cycle_size v n (planned_slots plans c)) len done (end - done) slots
 
--- The sum stays far below 64 bits.
+-- The sum is far below 2 ^ 64.
 pub sum_fits : (bytes done end len : ℕ) → bytes ≤ 67567616 * done → len ≤ 67567616 → done ≤ end → (bytes + (end - done) * len ≤ 67567616 * end) × ((end - done) * len ≤ 67567616 * end)
 sum_fits bytes done end len few short later = let product = mul-le-mul_left (end - done) short in (omega arith, omega arith)
 

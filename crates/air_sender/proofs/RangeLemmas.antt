@@ -21,7 +21,7 @@ column_below board item es below e = subst (All (λ e. e < board.cycle)) (sym e)
   | inr past ↦ subst (All (λ e. e < board.cycle)) (sym (get_or_past board.columns item [] past)) (All-nil _)
 ])
 
--- A bucket as its version tells it is in range where its body fits the version and its entries are below its cycle.
+-- A capped bucket is in range if its body fits the version and its entries are below its cycle.
 record BodyFits (version c : ℕ) (y : Body) : Type 0 where
   some : 1 ≤ count_of y
   count : count_of y ≤ most_count version
@@ -66,13 +66,13 @@ pub aired_range : (by : Policy) (v e c s i value : ℕ) (es : List ℕ) → (v �
     → All (λ e. e < c) es → IsInRange (capped_bucket (record { version = v; edition = e; cycle = c; slot = s; body = aired_as by i value es }))
 aired_range by v e c s i value es known small one wide slot within few low below = told_range v e c s (aired_as by i value es) known small one wide slot (item_fits by v c i value es within few low below)
 
--- Its entries are below the board's cycle, where the board can air it.
+-- Its entries are below the board's cycle, if the board can air it.
 pub aired_below : (by : Policy) (board : Board) (i : ℕ) → EntriesBelow board → All (λ e. e < board.cycle) (entries_on by board i)
 aired_below FMatrix board i below = column_below board i _ below refl
 aired_below Datacycle board i below = below.vector
 aired_below RMatrix board i below = below.vector
 
--- And they are the entries that the bucket carries.
+-- These are the entries that the bucket carries.
 pub aired_entries : (by : Policy) (i v : ℕ) (es : List ℕ) → entries_of (aired_as by i v es) ≡ es
 unfolding entries_of
 aired_entries FMatrix i v es = refl
@@ -93,7 +93,7 @@ spelling_within b es n e few =
     let short : entry_len b.version * length es ≤ entry_len b.version * n = entry_more b.version (length es) n few in
     omega arith
 
--- As a bucket tells its entries, there are as many of them.
+-- A bucket and its capped bucket have the same number of entries.
 pub told_length : (b : Bucket) → length (entries_of (capped_bucket b).body) ≡ length (entries_of b.body)
 told_length b = ap length (entries_told b.version b.cycle b.body) ∙ capped_length b.version b.cycle (entries_of b.body)
 

@@ -1,6 +1,6 @@
 -- Buckets that were sent one after the other: what the mast tells then.
--- `sent_none`, `sent_more` and `sent_all` are the loop over the slots; `last_bytes_are` says of which history the buckets
--- are, and `sent_up_to` what was sent where the mast failed.
+-- `sent_none`, `sent_more` and `sent_all` are the loop over the slots. `last_bytes_are` says of which history the buckets are, and `sent_up_to` what
+-- was sent if the mast failed.
 use Rattle.std.proofs.Common.{◌≡◌, ◌<◌, ◌+◌, ◌++◌, ◌∙◌, ℕ, Bool, true, false, Option, Some, None, List, [], ◌∷◌, length, map, take, get_or, sym, ap, subst, arith, append_assoc}
 use Rattle.std.specs.Prelude.{Result, Ok, Err, OnErr, OnOk}
 use Rattle.std.specs.Result.{is_err}
@@ -58,7 +58,7 @@ sent_all bs n o p e h = subst (λ xs. Changes (with_buckets xs) o p) (take_all n
 
 -- ---- one bucket
 
--- What a slot's bucket says, by the item that the slot has.
+-- The bucket of a slot, by the item that the slot has.
 pub bucket_is : (form : Form) (e : ℕ) (slots : List (Option ℕ)) (board : Board) (s : ℕ) (o : Option ℕ) (b : Bucket) → o ≡ get_or slots s None
     → b ≡ record { version = form.version; edition = e; cycle = board.cycle; slot = s; body = body_on form.policy board o } → capped_bucket b ≡ bucket_on form e slots board s
 unfolding bucket_on
@@ -70,11 +70,11 @@ pub bucket_edition : (version e own cycle slot : ℕ) (y : Body) (b : Bucket) �
     → b ≡ record { version = version; edition = own; cycle = cycle; slot = slot; body = y }
 bucket_edition version e own cycle slot y b same is = is ∙ ap (λ k. let b : Bucket = record { version = version; edition = k; cycle = cycle; slot = slot; body = y } in b) same
 
--- The bytes that were written at the front of the buffer.
-pub front_is : (b : Bucket) (n : ℕ) (out rest : List ℕ) → n ≡ length (spelling b) → out ≡ spelling (capped_bucket b) ++ rest → take n out ≡ spelling (capped_bucket b)
-front_is b n out rest size wrote = ap (take n) wrote ∙ take_at (spelling (capped_bucket b)) rest n (told_spelling b ∙ sym size)
+-- The bytes that were written at the beginning of the buffer.
+pub written_is : (b : Bucket) (n : ℕ) (out rest : List ℕ) → n ≡ length (spelling b) → out ≡ spelling (capped_bucket b) ++ rest → take n out ≡ spelling (capped_bucket b)
+written_is b n out rest size wrote = ap (take n) wrote ∙ take_at (spelling (capped_bucket b)) rest n (told_spelling b ∙ sym size)
 
--- What holds of a call that was answered well, or failed.
+-- What holds if a call succeeds holds of a call that did.
 pub well : {T E P : Type 0} (r : Result T E) (failed : Bool) → failed ≡ is_err r → failed ≡ false → OnOk r P → P
 well (Ok x) failed told is h = h
 well (Err y) failed told is h = absurd (false≢true (sym is ∙ told))

@@ -1,5 +1,5 @@
 -- The board of a history that ends with a start: it is the board of what came before, in the next cycle.
--- `own_cycle` and `below` are the two laws that the sender rests on.
+-- `own_cycle` and `below` are the two laws that the sender depends on.
 use Rattle.std.proofs.Common.{◌≡◌, ℕ, zero, suc, ◌+◌, ◌<◌, cond, Option, Some, None, List, [], ◌∷◌, ◌++◌, length, map, get_or, refl, sym, ◌∙◌, ap, subst, arith}
 use Rattle.std.specs.Prelude.{All, IfSome}
 use Rattle.std.specs.List.{range_with_len}
@@ -72,7 +72,7 @@ starts_push values G = ap (λ (b : Board). b.cycle) (started values G)
 
 -- ---- what the board airs is what the history airs
 
--- An item's body, by a list of events that stands before the cycle.
+-- An item's body, by a list of events that comes before the cycle.
 body_by : Policy → List ℕ → ℕ → List Event → ℕ → Body
 body_by FMatrix values n G item = aired_as FMatrix item (table (values_of values) G item) (column n G item)
 body_by Datacycle values n G item = aired_as Datacycle item (table (values_of values) G item) (vector n G)
@@ -114,7 +114,7 @@ slot_bucket values air G e s slots n edition own h =
     ∙ ap (λ xs. body_of values air (G ++ Start ∷ []) c (get_or xs s None)) own)
     ∙ ap (λ k. capped_bucket (record { version = air.version; edition = k; cycle = c; slot = s; body = body_of values air (G ++ Start ∷ []) c (get_or (slots_at air c) s None) })) edition
 
--- The law that `own_cycle_law` has, for those who take it from there.
+-- The statement of `own_cycle_law`, for those who take it from there.
 abbrev pub OwnCycleLaw : Type 0
 OwnCycleLaw = (values : List ℕ) (air : Air) (G : List Event) → air.items ≡ length values → SlotsFit air →
     board_buckets (form_of air) (edition_at air (starts (G ++ Start ∷ []))) (slots_at air (starts (G ++ Start ∷ []))) (board_of values (G ++ Start ∷ []))
@@ -124,7 +124,7 @@ OwnCycleLaw = (values : List ℕ) (air : Air) (G : List Event) → air.items ≡
 slots_fit : (air : Air) (c : ℕ) → SlotsFit air → All (λ o. IfSome o (λ i. i < air.items)) (slots_at air c)
 slots_fit air c fit = at_or_none (All (λ o. IfSome o (λ i. i < air.items))) air.slots (edition_at air c) fit (All-nil _)
 
--- So it is where the slots of this one cycle have items of the catalog.
+-- The same, if the slots of this one cycle have items of the catalog.
 pub last_cycle : (values : List ℕ) (air : Air) (G : List Event) → air.items ≡ length values → All (λ o. IfSome o (λ i. i < air.items)) (slots_at air (starts (G ++ Start ∷ []))) →
     board_buckets (form_of air) (edition_at air (starts (G ++ Start ∷ []))) (slots_at air (starts (G ++ Start ∷ []))) (board_of values (G ++ Start ∷ []))
     ≡ map (bucket_of values air (G ++ Start ∷ []) air.version (starts (G ++ Start ∷ []))) (range_with_len 0 (length (slots_at air (starts (G ++ Start ∷ [])))))

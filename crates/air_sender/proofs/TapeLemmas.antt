@@ -44,7 +44,7 @@ tape_back deck H tape same few =
     let long = ap length same in
     ap tape_read same ∙ whole_read rs (length (tape_of rs)) 0 (short_records rs (omega arith)) (omega arith)
 
--- Where no edition is too long each list of slots is short.
+-- If no edition is too long, each list of slots is short.
 pub slots_short : (deck : Deck) → AreShort deck → All (λ slots. length slots ≤ 2 ^ 16) ((air_of deck).slots)
 slots_short deck short e d below =
     let n = count_editions deck in
@@ -100,7 +100,7 @@ cycles_short values air H (c ∷ cs) =
     (subst (All (IsShort air)) (sym (map-map spelling (bucket_of values air H v c) ks)) (All-map (IsShort air) (λ s. spelling (bucket_of values air H v c s)) ks (λ k d below. bucket_short values air H v c (get_or ks k d))))
     (cycles_short values air H cs))
 
--- So none of the records is longer than that.
+-- So no record is longer than that.
 pub records_short : (deck : Deck) (H : List Event) → All (λ r. length r ≤ 24 + entry_len deck.settings.version * length deck.items) (aired_bytes deck H)
 unfolding buckets_of
 records_short deck H = cycles_short (values_in deck) (air_of deck) H (range_with_len 1 (starts H))

@@ -82,7 +82,7 @@ cycles_size values air H (c ∷ cs) =
     ap length joined ∙ length-append (tape_of (map spelling here)) (tape_of (map spelling rest))
     ∙ ap (λ n. n + length (tape_of (map spelling rest))) (whole_cycle values air H c) ∙ ap (λ n. size c + n) (cycles_size values air H cs) ∙ sym (sum_by-cons size c cs)
 
--- The law that `tape_size_law` has, for those who take it from there.
+-- The statement of `tape_size_law`, for those who take it from there.
 abbrev pub TapeSizeLaw : Type 0
 TapeSizeLaw = (values : List ℕ) (air : Air) (H : List Event) →
     length (history_tape values air H) ≡ tape_size air.version air.items (slots_at air) (starts H)
@@ -93,7 +93,7 @@ history_size values air H = cycles_size values air H (range_with_len 1 (starts H
 
 -- ---- cycles that are alike
 
--- Where all cycles have the same slots the sum is a product.
+-- If all cycles have the same slots, the sum is a product.
 even_sum : (f : ℕ → ℕ) (m a n : ℕ) → ((c : ℕ) → f c ≡ m) → sum_by f (range_with_len a n) ≡ n * m
 even_sum f m a zero same = omega arith
 even_sum f m a (suc n) same =

@@ -11,7 +11,7 @@ use Rattle.air_model.specs.Decks.{Deck, event_of, script_history, values_in}
 use Rattle.air_model.specs.Outputs.{script_tape}
 use Rattle.air_sender.specs.TapeSizes.{tape_size}
 use Rattle.air_sender.proofs.TapeLengths.{history_size}
-use Rattle.item_catalog.specs.DeckLimits.{is_start_part, script_starts}
+use Rattle.item_catalog.specs.DeckLimits.{is_scripted_start, script_starts}
 use Rattle.air_sender.proofs.RunLoops.{event_there, script_length}
 
 -- One for a start.
@@ -19,7 +19,7 @@ of_event : Event → ℕ
 of_event e = cond (is_start e) 1 0
 
 of_part : Option ℕ → ℕ
-of_part part = cond (is_start_part part) 1 0
+of_part part = cond (is_scripted_start part) 1 0
 
 same_one : (d : Deck) (before : List (Option ℕ)) (part : Option ℕ) → of_event (event_of d before part) ≡ of_part part
 unfolding of_event of_part event_of is_start

@@ -5,8 +5,8 @@ use Rattle.air_devices.specs.Masts.{Changes, MastState, SentBuckets, with_bucket
 use Rattle.air_sender.specs.declared.airing.AirFault.{AirFault}
 use Rattle.air_sender.specs.declared.airing.AirFault.TheVariants as fault
 
--- The mast failed at a slot of the cycle. Just before that send the buckets of the slots before had been sent, its count
--- and its port were as at first; then the count rose, and what it tells stayed.
+-- The mast failed at a slot of the cycle. Just before that send the buckets of the slots before had been sent, and its count of failures and its port
+-- were as at first. The failure was then counted, and what the mast tells stayed.
 pub record FailedAt {M : Type 0} (state : M → MastState) (slot : ℕ) (buckets : List (List ℕ)) (before now : M) : Type 0 where
   pub within : slot < length buckets
   pub just_before : M

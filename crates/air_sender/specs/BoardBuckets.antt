@@ -22,11 +22,11 @@ unfoldable pub body_on : Policy → Board → Option ℕ → Body
 body_on policy board None = Idle (length board.values)
 body_on policy board (Some item) = aired_as policy item (get_or board.values item 0) (entries_on policy board item)
 
--- The form of what is on an air.
+-- The form of an air's buckets.
 abbrev pub form_of : Air → Form
 form_of air = record { policy = air.scheme.policy; version = air.version }
 
--- The bucket of slot s in the board's cycle, in this edition: its entries are as the form's version tells them.
+-- The bucket of slot s in the board's cycle, in this edition: its entries are capped as the form's version requires.
 unfoldable pub bucket_on : Form → ℕ → List (Option ℕ) → Board → ℕ → Bucket
 bucket_on form e slots board s =
     capped_bucket (record { version = form.version; edition = e; cycle = board.cycle; slot = s; body = body_on form.policy board (get_or slots s None) })
@@ -35,11 +35,11 @@ bucket_on form e slots board s =
 abbrev pub board_buckets : Form → ℕ → List (Option ℕ) → Board → List Bucket
 board_buckets form e slots board = map (bucket_on form e slots board) (range_with_len 0 (length slots))
 
--- Their bytes.
+-- The bytes of these buckets.
 abbrev pub board_bytes : Form → ℕ → List (Option ℕ) → Board → List (List ℕ)
 board_bytes form e slots board = map spelling (board_buckets form e slots board)
 
--- A board can air its cycle: all its entries are below it.
+-- A board can air its cycle if all its entries are below it.
 pub record EntriesBelow (board : Board) : Type 0 where
   pub columns : All (All (λ e. e < board.cycle)) board.columns
   pub vector : All (λ e. e < board.cycle) board.vector
@@ -48,11 +48,11 @@ pub record EntriesBelow (board : Board) : Type 0 where
 abbrev pub last_cycle_buckets : List ℕ → Air → List Event → List Bucket
 last_cycle_buckets values air H = map (bucket_of values air H air.version (starts H)) (range_with_len 0 (length (slots_at air (starts H))))
 
--- Their bytes, where the history ends with a start.
+-- The bytes of these buckets, for the history with a start at its end.
 abbrev pub last_bytes : List ℕ → Air → List Event → List (List ℕ)
 last_bytes values air G = map spelling (last_cycle_buckets values air (G ++ Start ∷ []))
 
--- The board is that of a history which ends with a start, from these values, and airs in this form and edition with these slots.
+-- The board is that of G and a start, from these values, and is aired in this form and edition with these slots.
 pub record IsLastBoard (values : List ℕ) (air : Air) (G : List Event) (form : Form) (e : ℕ) (program : List (Option ℕ)) (b : Board) : Type 0 where
   pub board : b ≡ board_of values (G ++ Start ∷ [])
   pub items : air.items ≡ length values

@@ -1,16 +1,16 @@
 //! Airing one cycle of a program from a board.
 //!
-//! Each slot's bucket is written into the buffer and sent through the mast; no call takes memory. What was sent are the
-//! board's buckets, and so those of the history of which the board is.
+//! Each slot's bucket is written into the buffer and sent through the mast; no call takes memory. The buckets sent are the board's, and so those of
+//! the history of which the board is.
 
-ghost use Rattle.std.specs.Prelude.{◌≡◌, ◌⊎◌, ℕ, ◌<◌, ◌≤◌, ◌+◌, ◌*◌, List, [], ◌∷◌, length, IfErr, OnErr, OnOk};
+ghost use Rattle.std.specs.Prelude.{◌≡◌, ◌⊎◌, ℕ, ◌<◌, ◌≤◌, ◌+◌, ◌*◌, List, [], ◌∷◌, length, take, IfErr, Ok, OnErr, OnOk};
 ghost use Rattle.air_base.specs.declared.limits.TheConstants.{MOST_FULL_ITEMS, MOST_ITEMS, MOST_SLOTS};
 ghost use Rattle.air_history.specs.declared.histories.Event.{Event};
 ghost use Rattle.air_model.specs.Disks.{all_items};
 ghost use Rattle.air_model.specs.Programs.{program as slots_of};
-ghost use Rattle.air_model.specs.Buckets.{entry_len, most_count, spelling};
+ghost use Rattle.air_model.specs.Buckets.{entry_len, most_count, reading, spelling};
 ghost use Rattle.air_model.specs.Aired.{Air};
-ghost use Rattle.air_devices.specs.Counts.{HasCause};
+ghost use Rattle.air_devices.specs.Counts.{TellsFailure};
 ghost use Rattle.air_devices.specs.Masts.{Changes, with_buckets};
 ghost use Rattle.chunk_program.specs.Editions.{HaveItems, planned_slots};
 ghost use Rattle.air_sender.specs.BoardBuckets.{EntriesBelow, IsLastBoard, board_bytes, bucket_on, last_bytes};
@@ -31,15 +31,15 @@ const RECORD_HEAD: u64 = (LENGTH_BYTES + HEAD_BYTES) as u64;
 /// Why a cycle wasn't aired whole.
 #[derive(Clone, Copy, Debug, PartialEq, Eq)]
 pub enum AirFault {
-    /// The mast failed at the send of this slot. There is a mast, as it may have stood just before, by which the slots before had
-    /// been sent and the count was as at first; then the count rose, and what the mast tells stayed.
+    /// The mast failed at the send of this slot. Just before it the buckets of the slots before had been sent, and the mast's count of failures was
+    /// still as at first. The failure was then counted, and what the mast tells stayed.
     Mast { slot: u32 },
 }
 
-/// Sends the bucket of each slot in order for the board's cycle. `Board::new` and `Board::apply` tell whose board it is: where the last
-/// event was a start its cycle has started, and by `below_law` of `board_laws` its entries are below it. `Plans::in_force` lends the program
-/// of a cycle: that it is the board's cycle no call tests here. It has the deck's items, as many as `Board::new` got values, and `Board::n`
-/// tells how many entries the buffer is for; `entry_size` tells the bytes of each.
+/// Sends the bucket of each slot in order for the board's cycle. `Board::new` and `Board::apply` tell whose board it is: if the last event was a
+/// start, its cycle has started, and by `below_law` of `board_laws` its entries are below it. `Plans::in_force` lends the program of a cycle. No call
+/// tests that this is the board's cycle. The program has the deck's items, as many as `Board::new` got values. `Board::n` is the number of entries
+/// that the buffer needs room for; `entry_size` is the size of one in bytes.
 pub fn air_cycle<M: Mast>(
     program: &Program,
     board: &Board,
@@ -90,7 +90,26 @@ fn air_slot<M: Mast>(
     ensures sent { OnOk result (Changes (with_buckets (spelling (bucket_on form program.now.edition (slots_of program.now.disks) board.now slot) ∷ [])) (M.state mast.old).told (M.state mast.new).told) }
     ensures refused { OnErr result ((M.state mast.new).told ≡ (M.state mast.old).told) }
     ensures port { (M.state mast.new).port ≡ (M.state mast.old).port }
-    ensures cause { HasCause (M.state mast.old).faults (M.state mast.new).faults result }
+    ensures cause { TellsFailure (M.state mast.old).faults (M.state mast.new).faults result }
+{
+    let len = encode_slot(program, board, form, slot, buf);
+    mast.send(&buf[..len])
+}
+
+/// Writes the bytes of a slot's bucket to the beginning of the buffer, and returns their number. They decode to that bucket.
+pub fn encode_slot(program: &Program, board: &Board, form: Form, slot: u32, buf: &mut [u8]) -> usize
+    requires slot { slot < length (slots_of program.now.disks) }
+    requires short { slot < MOST_SLOTS }
+    requires version { (form.version ≡ 1) ⊎ (form.version ≡ 2) }
+    requires few { length board.now.values ≤ most_count form.version }
+    requires started { 1 ≤ board.now.cycle }
+    requires below { EntriesBelow board.now }
+    requires items { length (all_items program.now.disks) ≡ length board.now.values }
+    requires room { HEAD_BYTES + entry_len form.version * length board.now.values ≤ length buf.old }
+    ensures bytes { take result buf.new ≡ spelling (bucket_on form program.now.edition (slots_of program.now.disks) board.now slot) }
+    ensures decodes { reading (take result buf.new) ≡ Ok (bucket_on form program.now.edition (slots_of program.now.disks) board.now slot) }
+    ensures sized { result ≤ HEAD_BYTES + entry_len form.version * length board.now.values }
+    ensures buffer { length buf.new ≡ length buf.old }
 {
     let bucket = slot_bucket(
         board,
@@ -99,11 +118,10 @@ fn air_slot<M: Mast>(
         slot,
         program.slot_item(slot),
     );
-    let len = encode(&bucket, buf);
-    mast.send(&buf[..len])
+    encode(&bucket, buf)
 }
 
-/// The exact length of the tape of the first so many cycles in this form, where each edition has n items.
+/// The exact length in bytes of the tape of the first `cycles` cycles in this form, if each edition has n items.
 pub fn tape_bytes(plans: &Plans, n: u16, cycles: u32, form: Form) -> u64
     requires items { HaveItems n plans.now.programs }
     requires version { (form.version ≡ 1) ⊎ (form.version ≡ 2) }
@@ -119,10 +137,11 @@ pub fn tape_bytes(plans: &Plans, n: u16, cycles: u32, form: Form) -> u64
     bytes
 }
 
-/// The length of the records of one cycle of a program with n items in this version.
+/// The length in bytes of the records of one cycle of a program with n items in this version.
 pub fn cycle_len(program: &Program, n: u16, version: u8) -> u64
     requires { length (all_items program.now.disks) ≡ n }
     ensures len { result ≡ cycle_size version n (slots_of program.now.disks) }
+    ensures some { 1 ≤ result }
     ensures few { result ≤ (LENGTH_BYTES + HEAD_BYTES + ENTRY_BYTES * MOST_ITEMS) * MOST_SLOTS }
 {
     program.shows_well_made();

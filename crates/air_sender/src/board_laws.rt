@@ -1,6 +1,6 @@
-//! The laws of what a board airs and of how long a tape is, each carried by a function that does nothing.
+//! The laws of what a board airs and of how long a tape is. The bodies are empty.
 //!
-//! They stand apart so that they are checked once: no test and no edit has them proved again.
+//! They are in a module of their own so that they are checked once: no test and no edit has them proved again.
 
 ghost use Rattle.std.specs.Prelude.{◌≡◌, ℕ, cond, List, [], ◌∷◌, ◌++◌, length, map};
 ghost use Rattle.std.specs.List.{range_with_len};
@@ -24,13 +24,13 @@ pub fn below_law()
     ensures { (values : List ℕ) (G : List Event) → EntriesBelow (board_of values (G ++ Start ∷ [])) }
 {}
 
-/// One more event airs the buckets of the cycle that it starts, where it is a start, and else nothing.
+/// One more event airs the buckets of the cycle that it starts if it is a start, and nothing else.
 pub fn grow_law()
     ensures { (values : List ℕ) (air : Air) (G : List Event) (e : Event) →
         buckets_of values air (G ++ e ∷ []) ≡ buckets_of values air G ++ cond (is_start e) (last_cycle_buckets values air (G ++ e ∷ [])) [] }
 {}
 
-/// The tape of a history has the bytes of its records, cycle by cycle.
+/// The length of the tape of a history is the sum of the lengths of its records, cycle by cycle.
 pub fn tape_size_law()
     ensures { (values : List ℕ) (air : Air) (H : List Event) →
         length (history_tape values air H) ≡ tape_size air.version air.items (slots_at air) (starts H) }

@@ -11,7 +11,7 @@ use air_base::{Form, Policy};
 use bucket_codec::{Body, Bucket};
 use control_matrix::Board;
 
-/// The bucket of a slot that has this item, or is idle, in this edition.
+/// The bucket of a slot with this item, or of an idle one, in this edition.
 #[tactic(auto, using(crate::proofs::RangeLemmas::spelling_long), unfolding(crate::specs::BoardBuckets::body_on, bucket_codec::specs::BucketsToAir::body_to_air))]
 pub fn slot_bucket<'a>(
     board: &'a Board,

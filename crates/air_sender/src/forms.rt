@@ -11,7 +11,7 @@ use bucket_codec::entry_size;
 use bucket_codec::offsets::HEAD_BYTES;
 use chunk_program::Planned;
 
-/// The form of the deck's buckets.
+/// The form in which the deck's buckets are aired.
 pub fn own_form(planned: &Planned) -> Form
     ensures form { result ≡ form_of (air_of planned.now) }
     ensures version { (result.version ≡ 1) ⊎ (result.version ≡ 2) }
@@ -23,7 +23,7 @@ pub fn own_form(planned: &Planned) -> Form
     }
 }
 
-/// The bytes of the longest of the deck's buckets: the head's, and those of an entry for each item.
+/// The length in bytes of the deck's longest bucket: a head, and an entry for each item.
 pub fn bucket_room(planned: &Planned) -> usize
     ensures { result ≡ HEAD_BYTES + entry_len planned.now.settings.version * length planned.now.items }
 {

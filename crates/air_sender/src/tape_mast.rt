@@ -1,10 +1,10 @@
-//! A mast that gathers what is sent as a tape, in room that is taken at once.
+//! A mast that gathers what is sent as a tape. All its room is taken at once.
 //!
-//! A send fails exactly if its record has no room; aiming and finishing never fail. No call takes memory.
+//! A send fails if and only if there is no room for its record; aiming and finishing never fail. No call takes memory.
 
 ghost use Rattle.std.specs.Prelude.{◌≡◌, ◌<◌, ◌^◌, ◌↔◌, [], ◌∷◌, length, None, Some, IfOk, IsErr, IsOk, IsTrue, OnErr, OnOk};
 ghost use Rattle.air_model.specs.Tapes.{tape_of};
-ghost use Rattle.air_devices.specs.Counts.{HasCause};
+ghost use Rattle.air_devices.specs.Counts.{TellsFailure};
 ghost use Rattle.air_devices.specs.Masts.{Changes, fresh_mast, with_buckets, with_end};
 ghost use Rattle.air_devices.specs.Recordings.{no_records, overflows_record};
 ghost use Rattle.air_sender.specs.TapeMasts.{tape_mast_state, told_by_tape};
@@ -23,7 +23,7 @@ pub struct TapeMast {
 }
 
 impl TapeMast {
-    /// Nothing sent yet, with room for a tape of so many bytes.
+    /// A mast that has sent nothing, with room for a tape of this number of bytes.
     pub fn new(alloc: Global, bytes: u64) -> Result<TapeMast, NoMemory>
         ensures fresh { IfOk result (λ t. tape_mast_state t ≡ fresh_mast) }
         ensures room { IfOk result (λ t. t.tape.room ≡ bytes) }
@@ -59,7 +59,7 @@ impl Mast for TapeMast {
     fn aim(&mut self, port: u16) -> Result<(), Failed>
         ensures done { IsOk result }
         ensures aimed { self.new ≡ record self.old { port = Some port } }
-        ensures cause { HasCause self.old.faults self.new.faults result }
+        ensures cause { TellsFailure self.old.faults self.new.faults result }
     {
         self.port = Some(port);
         Ok(())
@@ -72,7 +72,7 @@ impl Mast for TapeMast {
         ensures added { OnOk result (Changes (with_buckets (bytes.now ∷ [])) (Some (told_by_tape self.old)) (Some (told_by_tape self.new))) }
         ensures refused { OnErr result (told_by_tape self.new ≡ told_by_tape self.old) }
         ensures port { self.new.port ≡ self.old.port }
-        ensures cause { HasCause self.old.faults self.new.faults result }
+        ensures cause { TellsFailure self.old.faults self.new.faults result }
     {
         if !self.tape.add(bytes) {
             self.faults = self.faults.saturating_add(1);
@@ -85,7 +85,7 @@ impl Mast for TapeMast {
         ensures done { IsOk result }
         ensures ended { told_by_tape self.new ≡ with_end (told_by_tape self.old) }
         ensures rest { self.new ≡ record self.old { ended = self.new.ended } }
-        ensures cause { HasCause self.old.faults self.new.faults result }
+        ensures cause { TellsFailure self.old.faults self.new.faults result }
     {
         let sent = self.tape.count();
         self.ended = Some(self.ended.unwrap_or(sent));

@@ -14,7 +14,7 @@ use std::time::{Clock, Duration};
 /// The nanoseconds of a second.
 const SECOND: u64 = 1_000_000_000;
 
-/// How many buckets all cycles of a deck have, each by the program in force in it.
+/// The number of buckets in all cycles of a deck, each by the program in force in it.
 fn buckets_of(planned: &Planned) -> u64 {
     let plans = planned.plans();
     let mut buckets = 0u64;
@@ -25,7 +25,7 @@ fn buckets_of(planned: &Planned) -> u64 {
     buckets
 }
 
-/// The time on air of so many buckets, in nanoseconds, at `rate` buckets a second.
+/// The time on air of this number of buckets, in nanoseconds, at `rate` buckets a second.
 fn time_on_air(buckets: u64, rate: u32) -> u64 {
     buckets.saturating_mul(SECOND / u64::from(rate.max(1)))
 }

@@ -1,9 +1,9 @@
 //! The program: words in, a status out.
 //!
-//! It hands its words and a shelf over files and standard output to the top call, with a mast and an ear over UDP on this machine. Variables
-//! of the environment set the rate of the mast and the silence of the ear (`settings`); with a rate updates wait at a gate (`gates`), else
-//! nothing waits. On standard error the ear reports on a terminal (`ears`), and a refusal has a note (`notes`), made from `plain_files` that
-//! are read again. The exit status is the status's number. Help and version are answered here.
+//! It gives its words and a shelf over files and standard output to the top call, with a mast and an ear over UDP on this machine. Environment
+//! variables set the rate of the mast and the silence of the ear (`settings`). With a rate, updates wait at a gate (`gates`); else nothing waits. On
+//! standard error the ear reports on a terminal (`ears`), and a refusal has a note (`notes`), made from `plain_files` that are read again. The exit
+//! status is the status's number. Help and version are answered here.
 #![tactic(auto)]
 
 mod ears;
@@ -76,13 +76,13 @@ fn cast_rate(words: &[String], settings: AirSettings) -> Option<u32> {
     }
 }
 
-/// Says that there was no memory, and answers the status of that.
+/// Says that the program is out of memory, and answers the status of that.
 fn end_without_memory<R: Eprint>(rt: &R) -> ExitCode {
     explain_no_memory(rt);
     ExitCode::from(Status::NoMemory.code())
 }
 
-/// Answers what can be answered at once: help, version, and what is no text or no setting. Else reads the settings of the command.
+/// Answers what can be answered at once: help, version, and what is no text or no setting. Otherwise it reads the settings of the command.
 fn read_words<R>(rt: &R, alloc: Global) -> Result<FirstStep, NoMemory>
 where
     R: Files + Env + Print + Eprint + Alloc<A = Global> + Clone + Drop,
@@ -118,7 +118,7 @@ fn answer<R: Print + Eprint>(
     }
 }
 
-/// Prints the help or the version, if a word that stands alone asks for it, and answers the status of that.
+/// Prints the help or the version, if a single word asks for it, and answers the status of that.
 fn answer_alone<R: Print + Eprint>(rt: &R, only: &str) -> Option<Status> {
     if is_help(only) {
         return Some(print_text(rt, HELP));
@@ -141,7 +141,7 @@ fn answer_help<R: Print + Eprint>(
     }
 }
 
-/// Whether a word that stands alone asks for the help.
+/// Whether a single word asks for the help.
 fn is_help(only: &str) -> bool {
     only == "help" || only == "--help" || only == "-h"
 }
@@ -175,7 +175,7 @@ fn words_of<R: Env + Alloc<A = Global>>(
     }
 }
 
-/// Prints a text, and answers the status of that. A failure has a note on standard error, but not a closed pipe.
+/// Prints a text, and answers the status of that. A failure has a note on standard error, except for a closed pipe.
 fn print_text<R: Print + Eprint>(rt: &R, text: &str) -> Status {
     match io::writer(rt).write_all(text.as_bytes()) {
         Ok(()) => Status::Ok,

@@ -1,8 +1,8 @@
-//! Notes on standard error on a command that was refused, or that gives no verdict: one line for a person, and for words of no form also the
-//! usage.
+//! Notes on standard error on a command that was refused, or that gives no verdict: one line for a person, and for words that aren't a valid command
+//! also the usage.
 //!
-//! It is made after the command has answered, of the same words and files, and changes neither the status nor what was printed. A
-//! file is looked into again only where it is a plain one. Where a note can't be made, there is none.
+//! A note is made after the command has answered, from the same words and files. It changes neither the status nor what was printed. Only a plain
+//! file is read again. If a note can't be made, there is none.
 
 mod audits;
 mod plans;
@@ -27,7 +27,7 @@ use std::rt::Files;
 /// The greatest size of a deck that is read again after status 0, in bytes, so that this takes little time.
 const QUICK_BYTES: u64 = 1_000_000;
 
-/// The word at a place; an empty one where there is none.
+/// The word at a place; empty if there is none.
 pub fn word(words: &[String], place: usize) -> &str {
     match words.get(place) {
         Some(word) => word.as_str(),
@@ -69,7 +69,7 @@ fn cut_note<R: Files + Print + Drop>(
     }
 }
 
-/// How much larger a file is than it may be.
+/// How much larger a file is than allowed.
 fn size_note<R: Files>(
     rt: &R,
     alloc: Global,
@@ -121,7 +121,7 @@ fn deck_silence_note<R: Files + Print + Drop>(
     }
 }
 
-/// What is said of a deck of which no best split is given; none of another status.
+/// A note on a deck for which no best split is given, or `None` for another status.
 fn split_note(alloc: Global, words: &[String], status: Status) -> Result<Option<String>, NoMemory> {
     let deck = ShownText::whole(word(words, 1));
     match status {
@@ -135,7 +135,7 @@ fn split_note(alloc: Global, words: &[String], status: Status) -> Result<Option<
     }
 }
 
-/// What is said of a status; none where nothing is.
+/// The note on a status, or `None` if there is none.
 fn text_of<R: Files + Print + Drop>(
     rt: &R,
     alloc: Global,
@@ -171,7 +171,7 @@ pub fn say<R: Eprint>(rt: &R, note: &str) {
     let _ = eprintln!(rt; "{note}");
 }
 
-/// Says that there was no memory.
+/// Says that the program is out of memory.
 pub fn explain_no_memory<R: Eprint>(rt: &R) {
     let _ = eprintln!(rt; "airdisk: out of memory");
 }

@@ -1,4 +1,4 @@
-//! Plain files that are looked into again, after a command has ended: what comes through a pipe is gone.
+//! Plain files that are read again after a command has ended: what came through a pipe is gone.
 
 use air_base::limits::MOST_TAPE_BYTES;
 use air_cli::{read_deck_file, read_runnable_deck};
@@ -10,10 +10,10 @@ use std::alloc::Global;
 use std::fs;
 use std::rt::Files;
 
-/// How many bytes of a tape are read at once.
+/// The number of bytes of a tape that are read at once.
 const PIECE_BYTES: usize = 1_048_576;
 
-/// How many bytes a plain file has; none of what is no plain file.
+/// The size of a plain file in bytes, or `None` for anything else.
 pub fn plain_size<R: Files>(rt: &R, name: &str) -> Option<u64> {
     match fs::metadata(rt, name) {
         Ok(known) if known.is_file() => Some(known.len()),
@@ -21,7 +21,7 @@ pub fn plain_size<R: Files>(rt: &R, name: &str) -> Option<u64> {
     }
 }
 
-/// The bytes of a plain file that is read again; none where that can't be.
+/// The bytes of a plain file that is read again, or `None` if it can't be.
 pub fn read_again<R: Files + Print + Drop>(
     rt: &R,
     alloc: Global,
@@ -33,7 +33,7 @@ pub fn read_again<R: Files + Print + Drop>(
     read_file(alloc, shelf, name, limit).ok()
 }
 
-/// A tape that is read again from a plain file, piece by piece; none where that can't be.
+/// A tape that is read again from a plain file, piece by piece, or `None` if it can't be.
 pub fn tape_again<R: Files + Print + Drop>(
     rt: &R,
     alloc: Global,
@@ -58,7 +58,7 @@ pub fn tape_again<R: Files + Print + Drop>(
     }
 }
 
-/// A deck that is read again from a plain file; none where that can't be.
+/// A deck that is read again from a plain file, or `None` if it can't be.
 pub fn deck_again<R: Files + Print + Drop>(
     rt: &R,
     alloc: Global,

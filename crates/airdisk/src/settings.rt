@@ -23,7 +23,7 @@ const RATE: Variable = Variable {
     what: "the buckets a second",
 };
 
-/// The silence after which `listen` ends, in seconds; with 0 it never does.
+/// The silence after which `listen` ends, in seconds; with 0 it never ends by itself.
 const QUIET: Variable = Variable {
     name: "AIRDISK_SILENCE",
     least: 0,

@@ -1,6 +1,6 @@
 //! Cases of boards: all that the board of a history says.
 //!
-//! It is stepped by one event after another from the values before the first.
+//! The board is stepped by one event after another from the values before the first.
 
 use crate::scans::add_entries;
 use air_base::limits::MOST_VALUES;

@@ -1,6 +1,6 @@
-//! Cases of a core: what each event of a history is answered, and what the core then has.
+//! Cases of a core: the answer to each event of a history, and what the core then has.
 //!
-//! The core is of a number of updaters. An event that it can't have is told `not a call`.
+//! The core has a number of updaters. An event that it can't have is answered with `not a call`.
 
 ghost use Rattle.std.specs.Prelude.{◌≡◌, ◌+◌, ◌<◌, ◌≤◌, length};
 
@@ -11,7 +11,7 @@ use case_lines::{BadCase, Parts, add_line};
 use std::alloc::Global;
 use update_commit::{Core, Receipt};
 
-/// Adds the event to the core, and tells what it is answered.
+/// Adds the event to the core, and adds the answer.
 #[tactic(auto, using(crate::proofs::Starts::few_made, crate::proofs::Starts::few_starts))]
 fn add_event(
     alloc: Global,
@@ -38,7 +38,7 @@ fn add_event(
     add_line(b"wrote", receipt.written.as_slice(), came)
 }
 
-/// Adds the events since the last start, each commit with its updater and that updater's number of it.
+/// Adds the events since the last start, each commit with its updater and that updater's number for it.
 fn add_fresh(alloc: Global, core: &Core, out: &mut Vec<u8>) -> Result<(), NoMemory> {
     let mut events = Vec::new(alloc);
     core.since_start(alloc, &mut events)?;
@@ -67,7 +67,7 @@ fn add_state(core: &Core, items: u16, out: &mut Vec<u8>) -> Result<(), NoMemory>
     Ok(())
 }
 
-/// What a core of a number of updaters answers to the history's events, and what it has after them.
+/// The answers of a core of a number of updaters to the history's events, and what it has after them.
 pub fn tell_core(
     alloc: Global,
     history: &History,

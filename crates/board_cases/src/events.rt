@@ -1,7 +1,7 @@
 //! Updates and events as cases spell them, and the history of events.
 //!
-//! An update is spelled as in a deck: the items that it reads, a comma, and its writes, with a space between each two. Before it stand a
-//! number and a comma: how many items there are, or the updater that commits it.
+//! An update is spelled as in a deck: the items that it reads, a comma, and its writes, each list with single spaces. A number and a comma come
+//! before it: the number of items, or the updater that commits it.
 
 use air_base::limits::MOST_EVENTS;
 use air_base::{NoMemory, after_byte, leading_number, read_u64};
@@ -90,7 +90,7 @@ pub fn commit_of(alloc: Global, parts: &mut Parts<'_>) -> Result<Event, UpdateFa
     })
 }
 
-/// The history of the events; none where they are more than a script has.
+/// The history of the events, or `None` if there are more than a script has.
 #[tactic(auto, using(crate::proofs::Starts::starts_within))]
 pub fn history_of(alloc: Global, events: &[Event]) -> Result<Option<History>, NoMemory> {
     let mut copies = Vec::new(alloc);

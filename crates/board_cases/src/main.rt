@@ -1,7 +1,7 @@
-//! Plays cases of histories: their updates, what the slow programs find in one, what its board says, and what a core answers.
+//! Plays cases of histories: their updates, what the slow calls find in one, what its board says, and what a core answers.
 //!
-//! `values` begins a history over these values, and each `start` and `commit` goes on with it. `history`, `descents` and `board` ask for all
-//! of it, `table` has a number of events, `scan` a cycle, and `core` a number of updaters. `update` makes an update alone.
+//! `values` begins a history over these values, and each `start` and `commit` continues it. `history`, `descents` and `board` ask for all of it,
+//! `table` takes a number of events, `scan` a cycle, and `core` a number of updaters. `update` makes an update alone.
 #![tactic(auto)]
 
 mod boards;

@@ -1,6 +1,6 @@
-//! Cases of the slow programs: what they find in a history.
+//! Cases of the slow calls: what they find in a history.
 //!
-//! A column is told by its entries that aren't 0, each with its item: ` 3=7`.
+//! A column is written as its entries that aren't 0, each with its item: ` 3=7`.
 
 use air_base::{NoMemory, write_u64};
 use air_history::{History, column_scan, descends, table_of, writer_at};

@@ -1,6 +1,6 @@
-//! Cases of updates: what lists make, or the rule that they break.
+//! Cases of updates: the update that lists make, or the rule that they break.
 //!
-//! The update is told, its copy, and the update of its lists; and whether the copy fits a number of items.
+//! The transcript has the update, its copy, and the update of its lists, and whether the copy fits a number of items.
 
 use crate::events::update_of;
 use air_base::NoMemory;
@@ -24,7 +24,7 @@ pub fn tell_fault(alloc: Global, fault: &UpdateFault, came: &mut Vec<u8>) -> Res
     add_line(fault.to_string(alloc)?.as_bytes(), &[], came)
 }
 
-/// What the lists make.
+/// Adds the update that the lists make, or the rule that they break.
 pub fn tell_update(
     alloc: Global,
     parts: &mut Parts<'_>,

@@ -1,4 +1,4 @@
--- A bucket in range is told as it is, and a column of true entries is in range as it is told.
+-- The capped bucket of a bucket in range is in range, and so is that of a column of true entries.
 use Rattle.std.proofs.Common.{◌≡◌, ◌⊎◌, ◌<◌, ◌≤◌, ◌^◌, ℕ, zero, suc, Bool, true, false, if◌then◌else◌, List, [], ◌∷◌, All, map, refl, sym, ap, subst, inl, inr, arith}
 use Rattle.std.specs.Prelude.{IsTrue}
 use Rattle.std.proofs.lemmas.List.Elements.{All-head, All-tail}

@@ -1,7 +1,7 @@
 //! Buckets read from their bytes, and written again.
 //!
-//! `bucket` has the bytes in hexadecimal digits, and `edited` reads the last ones again: the length to which they are cut or filled up with
-//! zeros, and then the place and the byte of each that is replaced. `encoded`, in `columns`, writes a bucket and reads it here.
+//! `bucket` takes the bytes in hexadecimal digits. `edited` reads the last ones again; it takes the length to which they are cut or filled up with
+//! zeros, and then the place and the new value of each byte that is replaced. `encoded`, in `columns`, writes a bucket and reads it here.
 
 ghost use Rattle.std.specs.Prelude.{◌≡◌, IfOk};
 ghost use Rattle.air_model.specs.Buckets.{IsInRange, entries_of};
@@ -39,7 +39,7 @@ fn body_of<'a>(view: &BucketView<'_>, entries: &'a [u32]) -> Body<'a>
     }
 }
 
-/// The entries, none of an idle slot.
+/// The entries; an idle slot has none.
 fn entries_in(alloc: Global, view: &BucketView<'_>) -> Result<Vec<u32>, NoMemory>
     ensures { IfOk result (λ entries. entries.items ≡ entries_of view.now.body) }
 {
@@ -53,8 +53,7 @@ fn entries_in(alloc: Global, view: &BucketView<'_>) -> Result<Vec<u32>, NoMemory
     }
 }
 
-/// Whether the bucket has these bytes when it is written again, to the front of a slice with this many more bytes, which
-/// stay as they are.
+/// Whether the bucket has these bytes when it is written again to the front of a slice with this many more bytes, and these stay as they are.
 fn is_written(
     alloc: Global,
     view: &BucketView<'_>,
@@ -112,7 +111,7 @@ fn add_view(view: &BucketView<'_>, came: &mut Vec<u8>) -> Result<(), NoMemory> {
     Ok(())
 }
 
-/// Adds what the bytes say and whether they are written again so, or the first fault.
+/// Adds what the bytes say and whether the bucket is written again with the same bytes, or the first fault.
 pub fn read_bucket(alloc: Global, bytes: &[u8], came: &mut Vec<u8>) -> Result<(), NoMemory> {
     match decode(bytes) {
         Ok(view) => {
@@ -130,7 +129,7 @@ pub fn read_bucket(alloc: Global, bytes: &[u8], came: &mut Vec<u8>) -> Result<()
     }
 }
 
-/// Reads the bytes, cut or with zeros after them to a length, and with some bytes replaced.
+/// Reads the bytes, cut or filled up with zeros to a length, and with some bytes replaced.
 pub fn edited(
     alloc: Global,
     bytes: &[u8],

@@ -1,7 +1,7 @@
-//! Columns of true entries, written as their version tells them, and read.
+//! Columns of true entries, written as their version spells them, and read.
 //!
-//! `encoded` has the version, the cycle, the item and the value of a column whose entries are the last row. Its bytes are those of the
-//! last bucket from then on.
+//! `encoded` takes the version, the cycle, the item and the value of a column. The column's entries are the last row. Its bytes are those of the last
+//! bucket from then on.
 
 ghost use Rattle.std.specs.Prelude.{◌≡◌, ◌<◌, All, IsTrue};
 ghost use Rattle.air_model.specs.Buckets.{most_count};
@@ -14,7 +14,7 @@ use bucket_codec::{Body, Bucket, encode, size_of};
 use case_lines::{BadCase, Parts, add_hex};
 use std::alloc::Global;
 
-/// The most items of a bucket of a version.
+/// The greatest number of items of a bucket of a version.
 fn most_items(version: u8) -> usize
     ensures { result ≡ most_count version }
 {

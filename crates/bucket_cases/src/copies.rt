@@ -1,7 +1,7 @@
 //! A cache of copies.
 //!
-//! `cache` has a room and the PIX number of each item, `keep` an item and a cycle, of which the value and the column of the copy are made,
-//! `drop` an item, and `reorder` other PIX numbers.
+//! `cache` takes a room and the PIX number of each item, `keep` an item and a cycle, from which the value and the column of the copy are made, `drop`
+//! an item, and `reorder` other PIX numbers.
 
 ghost use Rattle.std.specs.Prelude.{◌≡◌, length};
 

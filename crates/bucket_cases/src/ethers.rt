@@ -1,7 +1,7 @@
 //! What a reader hears of the ether, and the words that it draws.
 //!
-//! `ether` has the seed, the reader's number, how many of a hundred are lost, heard again and late, and the number of pushes; `words` has
-//! a seed and a stream.
+//! `ether` takes the seed, the reader's number, how many of a hundred are lost, heard again and late, and the number of pushes. `words` takes a seed
+//! and a stream.
 
 ghost use Rattle.std.specs.Prelude.{◌≡◌, OnOk};
 ghost use Rattle.air_ether.specs.HeardSoFar.{IsQuiet};

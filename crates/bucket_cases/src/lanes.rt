@@ -1,13 +1,13 @@
-//! The kernels over rows, each beside a plain loop.
+//! The kernels over rows, each compared with a plain loop.
 //!
-//! They are called with `row` and `other`, which have to be of one length. `stamped` has a cycle, and its marks are `other`.
+//! They are called with `row` and `other`, which must have the same length. `stamped` takes a cycle, and its marks are `other`.
 
 use air_base::NoMemory;
 use air_lanes::{first_not_below, max_into, stamp};
 use case_lines::{BadCase, Parts, add_entries, add_line};
 use std::alloc::Global;
 
-/// Adds the row, where it is short, and whether it is the one that a plain loop leaves.
+/// Adds the row if it is short, and whether it is the one that a plain loop leaves.
 fn add_row(row: &[u32], plain: &[u32], came: &mut Vec<u8>) -> Result<(), NoMemory> {
     if row.len() < 40 {
         add_entries(b"row", row, came)?;
@@ -89,7 +89,7 @@ pub fn find(
     }
 }
 
-/// Whether the place is found, where the column is as great as what is held at that place too; the column is left as it was.
+/// Whether the place is found if the column is as great as what is held at that place too. The column is left as it was.
 fn is_found(column: &mut [u32], held: &[u32], place: usize) -> bool {
     if column.len() != held.len() || place >= column.len() {
         return false;
@@ -101,8 +101,8 @@ fn is_found(column: &mut [u32], held: &[u32], place: usize) -> bool {
     found == Some(place)
 }
 
-/// Tries each place of a column that is below all of what is held but at that place: up to the 300th, and the last. Adds those
-/// that aren't found.
+/// Raises a column that is below what is held to the held entry at one place after another: up to the 300th, and the last. Adds the places that
+/// aren't found.
 pub fn find_all(column: &mut [u32], held: &[u32], came: &mut Vec<u8>) -> Result<(), NoMemory> {
     for place in 0..column.len() {
         if place >= 300 && place + 1 != column.len() {

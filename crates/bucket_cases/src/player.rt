@@ -1,8 +1,8 @@
 //! The words of the cases.
 //!
-//! `bucket`, `encoded` and `tape` set the bytes that `edited` and `fronts` read again, and `record` adds one to a tape; `cache` makes the
-//! copies that `keep`, `drop`, `reorder` and `kept` are about; `row` and `other` set the rows of `encoded`, `greater`, `stamped`, `find` and
-//! `find_all`; `ether` and `words` draw from a seed.
+//! `bucket`, `encoded` and `tape` set the bytes that `edited` and `fronts` read again, and `record` adds one to a tape. `cache` makes the copies that
+//! `keep`, `drop`, `reorder` and `kept` are about. `row` and `other` set the rows of `encoded`, `greater`, `stamped`, `find` and `find_all`. `ether`
+//! and `words` draw from a seed.
 
 use crate::buckets::{edited, read_bucket};
 use crate::columns::encoded;

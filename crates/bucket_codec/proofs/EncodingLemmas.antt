@@ -1,5 +1,5 @@
--- A spelling is its head and its entries, and what is spelled of a bucket's true entries is read back as the bucket that they are told as.
--- `whole_is` joins the two writes of `encode`, `decodes` what it promises of its bytes.
+-- A spelling is its head and its entries. What is spelled of a bucket's true entries is read back as the bucket with its
+-- entries as ages give them. `whole_is` joins the two writes of `encode`, and `decodes` is what it promises of its bytes.
 use Rattle.std.proofs.Common.{◌≡◌, ◌≤◌, ◌<◌, ◌+◌, ◌-◌, ◌*◌, ◌++◌, ◌∷◌, [], ℕ, Bool, true, false, cond, if◌then◌else◌, nat_lt, List, Ok, All, length, map, take, drop, get_or, refl, sym, ◌∙◌, ap, subst, arith, length-append}
 use Rattle.std.specs.List.{flat_map}
 use Rattle.std.proofs.lemmas.Bool.{ltb-false}
@@ -26,7 +26,7 @@ spelled_in_full : (v c : ℕ) (es : List ℕ) → has_ages v ≡ false → flat_
 unfolding entry_bytes capped_entries
 spelled_in_full v c es full = ap (λ (b : Bool). flat_map (λ e. if b then age_of c e ∷ [] else big_bytes 4 e) (if b then map (λ e. capped e c) es else es)) full
 
--- As many bytes.
+-- The entries by age take one byte each.
 by_age : (c : ℕ) (es : List ℕ) → length (flat_map (λ e. age_of c e ∷ []) es) ≡ 1 * length es
 by_age c [] = refl
 by_age c (e ∷ es) = omega (arith, by_age c es)
@@ -39,7 +39,7 @@ length_told v c es = by (has_ages v)
     by true = by_age c es
     by false = length_numbers es
 
--- What was written by ages, or in full, is what the version tells.
+-- What was written, by ages or in full, is what the version gives.
 pub written_by_age : (v c : ℕ) (es old new : List ℕ) → has_ages v ≡ true → new ≡ take 24 old ++ (flat_map (aged_bytes c) es ++ drop (24 + length es) old)
     → new ≡ take 24 old ++ (flat_map (entry_bytes v c) (capped_entries v c es) ++ drop (24 + entry_len v * length es) old)
 written_by_age v c es old new ages wrote =
@@ -70,13 +70,13 @@ length_spelling b =
     let rest = flat_map (entry_bytes b.version b.cycle) (entries_of b.body) in
     sym (ap length (spelling_is b)) ∙ length-append (head_bytes (head_of b)) rest ∙ ap (λ n. n + length rest) (length_head b) ∙ ap (λ n. 24 + n) (length_told b.version b.cycle (entries_of b.body))
 
--- A bucket is as long as it is told.
+-- Capping the entries doesn't change a bucket's length.
 same_length : (b : Bucket) → length (spelling (capped_bucket b)) ≡ length (spelling b)
 same_length b =
     length_spelling (capped_bucket b) ∙ ap (λ n. 24 + entry_len b.version * n) (ap length (entries_told b.version b.cycle b.body) ∙ capped_length b.version b.cycle (entries_of b.body))
     ∙ sym (length_spelling b)
 
--- And has its head.
+-- Capping the entries doesn't change a bucket's head.
 head_kept : (b : Bucket) → head_of (capped_bucket b) ≡ head_of b
 unfolding head_of
 head_kept b = let v = b.version in let c = b.cycle in let y = b.body in rw (kind_kept v c y, count_kept v c y, item_kept v c y, value_kept v c y) refl
@@ -89,7 +89,7 @@ spelled b es e =
     ∙ ap (λ l. head_bytes (head_of (capped_bucket b)) ++ flat_map (entry_bytes v c) l) (ap (capped_entries v c) e ∙ sym (entries_told v c b.body))
     ∙ spelling_is (capped_bucket b)
 
--- The head and then the entries were written.
+-- The head was written, and then the entries.
 pub whole_is : (b : Bucket) (es old out new : List ℕ) (n : ℕ) → es ≡ entries_of b.body → n ≡ length (spelling b) → out ≡ head_bytes (head_of b) ++ drop 24 old
     → new ≡ take 24 out ++ (flat_map (entry_bytes b.version b.cycle) (capped_entries b.version b.cycle es) ++ drop (24 + entry_len b.version * length es) out)
     → new ≡ spelling (capped_bucket b) ++ drop n old
@@ -102,14 +102,14 @@ whole_is b es old out new n e size told wrote =
     put_next old out new (head_bytes (head_of b)) (flat_map (entry_bytes v c) (capped_entries v c es)) 24 w (length_head b) many told wrote
     ∙ ap (λ l. l ++ drop (24 + w) old) (spelled b es e) ∙ ap (λ n. spelling (capped_bucket b) ++ drop n old) end
 
--- What was written at the front is read as the bucket that it tells.
+-- What was written at the front is read as the bucket with capped entries.
 pub decodes : (b : Bucket) (n : ℕ) (rest new : List ℕ) → IsInRange (capped_bucket b) → n ≡ length (spelling b) → new ≡ spelling (capped_bucket b) ++ rest → reading (take n new) ≡ Ok (capped_bucket b)
 decodes b n rest new range size wrote =
     let t = capped_bucket b in
     let w = whole_from_bucket (spelling t) t (range, refl) in
     ap reading (ap (take n) wrote ∙ take_at (spelling t) rest n (same_length b ∙ sym size)) ∙ ok_from_whole (spelling t) w.0 ∙ ap Ok w.1
 
--- ---- a bucket that is in range as it is told
+-- ---- a bucket that is in range with capped entries
 
 most_few : (v : ℕ) → most_count v ≤ MOST_ITEMS
 most_few v = by (has_ages v)
@@ -118,7 +118,7 @@ most_few v = by (has_ages v)
     by true = omega arith
     by false = omega arith
 
--- It has few items.
+-- Such a bucket has few items.
 pub count_few : (b : Bucket) → IsInRange (capped_bucket b) → count_of b.body ≤ MOST_ITEMS
 count_few b range =
     let same = count_kept b.version b.cycle b.body in
@@ -126,7 +126,7 @@ count_few b range =
     let few = most_few b.version in
     omega arith
 
--- An entry is below the cycle where what an age tells of it is.
+-- An entry is below the cycle if the capped entry is.
 capped_below : (e c : ℕ) → capped e c < c → e < c
 unfolding capped
 capped_below e c = by (nat_lt (c - e) AGE_CAP) refl
@@ -135,7 +135,7 @@ capped_below e c = by (nat_lt (c - e) AGE_CAP) refl
     by true young less = less
     by false old less = let most = ltb-false (c - e) AGE_CAP old in omega arith
 
--- Its true entries are below the cycle.
+-- Such a bucket's true entries are below the cycle.
 pub entries_below : (b : Bucket) → IsInRange (capped_bucket b) → All (λ e. e < b.cycle) (entries_of b.body)
 entries_below b range = by (has_ages b.version) refl
   where

@@ -1,5 +1,5 @@
--- The entries of bytes: their tests taken one by one, entries in full and by age, and what the test of a version says of them.
--- The loops of `entries` stand on `tests_more`, `raw_is` and `entry_is`, its choices by version on the lemmas of the last two parts.
+-- The entries of bytes: their tests one by one, entries in full and by age, and what the test of a version says of them. The
+-- loops of `entries` use `tests_more`, `raw_is` and `entry_is`; its choices by version use the lemmas of the last two parts.
 use Rattle.std.proofs.Common.{◌≡◌, ◌<◌, ◌≤◌, ◌+◌, ◌-◌, ◌*◌, ◌++◌, ◌&&◌, ◌||◌, ◌==◌, ◌≢◌, cond, if◌then◌else◌, min, ℕ, Bool, true, false, List, [], ◌∷◌, length, map, drop, get_or, slice_index, nat_le, nat_lt, refl, sym, ◌∙◌, ap, subst, arith}
 use Rattle.std.specs.List.{list_all, range_with_len}
 use Rattle.std.proofs.lemmas.Bool.{and_parts, eqb-false, le-ltb, lt-ltb, ltb-false, ltb-true, ne_eqb}
@@ -21,7 +21,7 @@ pub tests_none : (v c : ℕ) (bytes : List ℕ) → list_all (is_entry v c) (raw
 unfolding raw_entries
 tests_none v c bytes = refl
 
--- One more entry is asked for.
+-- One more entry is tested.
 pub tests_more : (v c i : ℕ) (bytes : List ℕ) → list_all (is_entry v c) (raw_entries v (i + 1) bytes) ≡ (list_all (is_entry v c) (raw_entries v i bytes) && is_entry v c (raw_entry v i bytes))
 tests_more v c i bytes =
     let x = raw_entry v i bytes in
@@ -48,7 +48,7 @@ pub length_entries : (v c n : ℕ) (bytes : List ℕ) → length (entries_at v c
 unfolding entries_at
 length_entries v c n bytes = length-map (raw_entries v n bytes) (entry_told v c) ∙ length_raw v n bytes
 
--- Each of the entries passes.
+-- Each of the tested entries passes.
 pub test_is : (v c n i : ℕ) (bytes : List ℕ) → list_all (is_entry v c) (raw_entries v n bytes) ≡ true → i < n → is_entry v c (raw_entry v i bytes) ≡ true
 test_is v c n i bytes t under =
     ap (is_entry v c) (sym (raw_is v n i bytes under)) ∙ each_test (is_entry v c) (raw_entries v n bytes) t i 0 (omega (arith, length_raw v n bytes))
@@ -70,7 +70,7 @@ age_is i bytes =
     let place : 24 + 1 * i + 0 ≡ 24 + i = omega arith in
     byte ∙ get_or-drop (24 + 1 * i) bytes 0 0 ∙ ap (slice_index bytes) place
 
--- A byte is an age in a cycle just where it is one in the earlier of the cycle and the cap.
+-- A byte is an age in a cycle if and only if it is one in the lesser of the cycle and the cap.
 pub age_test : (c d a : ℕ) → a < 256 → d ≡ min c AGE_CAP → is_entry 2 d a ≡ is_entry 2 c a
 unfolding is_entry
 age_test c d a small earlier = by (a == AGE_CAP) refl
@@ -86,7 +86,7 @@ age_test c d a small earlier = by (a == AGE_CAP) refl
         tried true below = let less = ltb-true a c below in let no : a ≢ AGE_CAP = apart in lt-ltb a d (omega arith) ∙ sym below
         tried false over = let most = ltb-false a c over in le-ltb a d (omega arith) ∙ sym over
 
--- The age that tells an entry, 0 and another.
+-- The age of an entry that is 0, and of another.
 pub age_none : (c e : ℕ) → e ≡ 0 → AGE_CAP ≡ age_of c (capped e c)
 unfolding capped
 age_none c e none = subst (λ n. AGE_CAP ≡ age_of c (capped n c)) (sym none) (by (nat_lt (c - 0) AGE_CAP))
@@ -141,9 +141,9 @@ unfolding entries_at entry_told raw_entries
 same_entries v w c n bytes e =
     ap (λ (b : Bool). map (λ a. if b then (if a == AGE_CAP then 0 else c - a) else a) (map (λ i. let n : ℕ = if b then 1 else 4 in number_at (24 + n * i) n bytes) (range_with_len 0 n))) e
 
--- ---- what a choice by version knows
+-- ---- what is known after a choice by version
 
--- The bytes reach as far.
+-- The bytes are long enough.
 pub room_by_age : (v n m : ℕ) → has_ages v ≡ true → 24 + entry_len v * n ≤ m → 24 + n ≤ m
 room_by_age v n m ages room = let known = subst (λ w. 24 + w * n ≤ m) (same_len v 2 ages) room in omega arith
 

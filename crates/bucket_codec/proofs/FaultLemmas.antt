@@ -1,5 +1,5 @@
--- Each fault, and the bucket, from what the tests before it said.
--- Each return of `first_fault` is one lemma of this file; the last four say what `decode` answers by it.
+-- Each fault, and the bucket, from what the tests before it said. Each return of `first_fault` has one lemma of this file; the
+-- last four say what `decode` answers from it.
 use Rattle.std.proofs.Common.{◌≡◌, ◌≢◌, ◌≤◌, ◌<◌, ◌⊎◌, inl, inr, ◌+◌, ◌*◌, ◌&&◌, ◌||◌, ◌==◌, nat_le, ℕ, Bool, true, false, Option, Some, None, Result, Ok, Err, List, length, slice_index, refl, sym, ◌∙◌, ap, arith}
 use Rattle.std.specs.List.{list_all}
 use Rattle.std.specs.Result.{result_err}

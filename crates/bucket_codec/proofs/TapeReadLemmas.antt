@@ -1,5 +1,5 @@
--- What a reader of a tape has still to give, before and after a record.
--- `next` of the reader stands on `nothing_read`, `cut_is` and `record_next`; `tape_record` on `pasted` and `record_wrote`.
+-- What a reader of a tape has still to give, before and after a record. `next` of the reader uses `nothing_read`, `cut_is` and
+-- `record_next`; `tape_record` uses `pasted` and `record_wrote`.
 use Rattle.std.proofs.Common.{◌≡◌, ◌≤◌, ◌<◌, ◌+◌, ◌^◌, ◌++◌, ◌==◌, if◌then◌else◌, ℕ, zero, suc, Bool, true, false, Some, None, List, [], ◌∷◌, length, take, drop, refl, sym, ◌∙◌, ap, arith, append_assoc}
 use Rattle.std.proofs.lemmas.Bool.{eqb-true}
 use Rattle.std.proofs.lemmas.List.{length-drop, take_all}
@@ -10,14 +10,14 @@ use Rattle.air_model.specs.Tapes.{TapeRead, ends_inside, read_from, record_bytes
 use Rattle.air_model.proofs.TapeLemmas.{length_record, read_cut, read_record}
 use Rattle.bucket_codec.proofs.WriteLemmas.{put_next}
 
--- Where nothing is left, nothing is read.
+-- If nothing is left, nothing is read.
 pub nothing_read : (n at : ℕ) (rest : List ℕ) → length rest ≡ 0 → read_from n at rest ≡ record { records = []; cut = None }
 unfolding read_from
 nothing_read zero at rest e = refl
 nothing_read (suc n) at [] e = refl
 nothing_read (suc n) at (x ∷ rest) e = absurd (omega arith)
 
--- A reading is the same under each bound that is large enough.
+-- A reading is the same for each bound that is large enough.
 pub enough : (n m at : ℕ) (rest : List ℕ) → length rest ≤ n → length rest ≤ m → read_from n at rest ≡ read_from m at rest
 unfolding read_from
 enough zero m at rest a b = nothing_read zero at rest (omega arith) ∙ sym (nothing_read m at rest (omega arith))
@@ -32,7 +32,7 @@ enough (suc n) (suc m) at rest a b =
     by false e later =
         ap (λ (t : TapeRead). if length rest == 0 then record { records = []; cut = None } else if ends_inside rest then record { records = []; cut = Some at } else with_record (take (big_number 4 rest) (drop 4 rest)) t) later
 
--- A cut record is read as one.
+-- A cut record is read as cut.
 pub cut_is : (at : ℕ) (rest : List ℕ) → ends_inside rest ≡ true → read_from (length rest) at rest ≡ record { records = []; cut = Some at }
 cut_is at rest cut = read_cut (length rest) at rest cut (omega arith)
 

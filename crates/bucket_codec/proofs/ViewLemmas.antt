@@ -1,5 +1,4 @@
--- What stands at the places of bytes without a fault, said of their bucket.
--- Each reader of a view is one lemma of this file.
+-- What is at the places of bytes without a fault, in terms of their bucket. Each reader of a view has one lemma of this file.
 use Rattle.std.proofs.Common.{◌≡◌, ◌≢◌, ◌≤◌, ◌<◌, ◌⊎◌, inl, inr, ◌+◌, ◌*◌, ℕ, Ok, true, List, length, drop, get_or, slice_index, if◌then◌else◌, refl, sym, ◌∙◌, ap, subst, arith}
 use Rattle.std.specs.List.{flat_map, list_all}
 use Rattle.std.proofs.lemmas.Bool.{and_parts, ne_eqb}
@@ -51,7 +50,7 @@ module _ (bytes : List ℕ) (e : reading bytes ≡ Ok (bucket_at bytes)) where
   unfolding fields_of
   value_is = sym (ap (λ (f : Fields). f.value) (fields_back bytes whole))
 
-  -- the entries stand behind the head
+  -- the entries follow the head
   pub rest_is : AllBytes bytes → drop 24 bytes ≡ flat_map (entry_bytes (bucket_at bytes).version (bucket_at bytes).cycle) (entries_of (bucket_at bytes).body)
   unfolding spelling
   rest_is all = ap (drop 24) (bucket_from_whole bytes all whole).1
@@ -63,7 +62,7 @@ module _ (bytes : List ℕ) (e : reading bytes ≡ Ok (bucket_at bytes)) where
   long_entries : length (entries_of (bucket_at bytes).body) ≡ many
   long_entries = ap length (entries_read bytes whole) ∙ length_entries (slice_index bytes 2) (number_at 8 4 bytes) many bytes
 
-  -- but for an idle slot there is an entry for each item
+  -- except in an idle slot there is an entry for each item
   as_many : kind_of (bucket_at bytes).body ≢ 0 → length (entries_of (bucket_at bytes).body) ≡ count_of (bucket_at bytes).body
   unfolding entry_count
   as_many busy =
@@ -74,8 +73,8 @@ module _ (bytes : List ℕ) (e : reading bytes ≡ Ok (bucket_at bytes)) where
   unfolding is_shaped
   all_pass = (and_parts _ (list_all (is_entry (slice_index bytes 2) (number_at 8 4 bytes)) (raw_entries (slice_index bytes 2) many bytes)) whole.shaped).1
 
-  -- What a reader of entries knows of the bucket that the view has, by the version and the cycle that it read: there are so many
-  -- entries as items, since the slot isn't idle.
+  -- What a reader of entries knows of the view's bucket, from the version and the cycle that it read: there are as many entries
+  -- as items, since the slot isn't idle.
   module _ (now : Bucket) (is : bucket_at bytes ≡ now) (busy : kind_of now.body ≢ 0) (v c n : ℕ) (version : v ≡ now.version) (cycle : c ≡ now.cycle) (all : n ≡ count_of now.body) where
     at_version : v ≡ slice_index bytes 2
     at_version = version ∙ sym (ap (λ (b : Bucket). b.version) is) ∙ sym (version_is bytes)
@@ -96,7 +95,7 @@ module _ (bytes : List ℕ) (e : reading bytes ≡ Ok (bucket_at bytes)) where
     pub view_entries : entries_at v c n bytes ≡ entries_of now.body
     view_entries = (rw (at_version, at_cycle, at_many) refl) ∙ sym (entries_read bytes whole) ∙ ap (λ (b : Bucket). entries_of b.body) is
 
-    -- and to that of each
+    -- the bytes reach to the end of each entry
     pub entry_room : (i : ℕ) → i < n → 24 + entry_len v * i + entry_len v ≤ length bytes
     entry_room i under = by whole.version
       where

@@ -1,4 +1,4 @@
--- Writes from the front to the back: each stands behind what was written before it.
+-- Writes from the front to the back: each comes after what was written before it.
 -- `put_next` is the one step; the entries and the head are chains of it.
 use Rattle.std.proofs.Common.{◌≡◌, ◌≤◌, ◌<◌, ◌+◌, ◌-◌, ◌*◌, ◌++◌, ℕ, List, [], ◌∷◌, length, take, drop, set, get_or, refl, sym, ◌∙◌, ap, arith, append_assoc, length-append}
 use Rattle.std.specs.List.{flat_map}
@@ -51,7 +51,7 @@ length_ages c (e ∷ es) = omega (arith, length_ages c es)
 pub stored : (out : List ℕ) (at x : ℕ) → at < length out → set out at x ≡ take at out ++ (x ∷ [] ++ drop (at + 1) out)
 stored out at x under = sym (take-append-drop at (set out at x)) ∙ (rw (take-set out at x, drop-set out at x under) refl)
 
--- The entries, one more: what is written so far ends at a place, and the bytes of one more stand there.
+-- One more entry: what is written so far ends at a place, and the bytes of one more are put there.
 pub entries_next : (f : ℕ → List ℕ) (old out new es : List ℕ) (i at k next : ℕ) → length (take 24 old ++ flat_map f (take i es)) ≡ at → length (f (get_or es i 0)) ≡ k → at + k ≡ next
     → i < length es → out ≡ (take 24 old ++ flat_map f (take i es)) ++ drop at old → new ≡ take at out ++ (f (get_or es i 0) ++ drop (at + k) out)
     → new ≡ (take 24 old ++ flat_map f (take (i + 1) es)) ++ drop next old
@@ -71,7 +71,7 @@ entries_end f old out es i at end over there told =
 pub entries_start : (old : List ℕ) → old ≡ (take 24 old ++ []) ++ drop 24 old
 entries_start old = sym (ap (λ l. l ++ drop 24 old) (append-nil (take 24 old)) ∙ take-append-drop 24 old)
 
--- As many entries in full end at a place, and as many ages.
+-- Entries in full end at a place, and so do as many ages.
 pub place_in_full : (old es : List ℕ) (i : ℕ) → i ≤ length es → 24 ≤ length old → length (take 24 old ++ flat_map (big_bytes 4) (take i es)) ≡ 24 + 4 * i
 place_in_full old es i few long = omega (arith, length-append (take 24 old) (flat_map (big_bytes 4) (take i es)), length-take 24 old, length_numbers (take i es), length-take i es)
 

@@ -1,5 +1,4 @@
--- A bucket to be aired, as the definitions know it.
--- The contracts of `encode` and `size_of` speak of a bucket by these words.
+-- A bucket to be aired, as the definitions know it. The contracts of `encode` and `size_of` use these definitions for a bucket.
 use Rattle.air_model.specs.Buckets.{Body, Bucket, Idle, Column, Vector}
 use Rattle.bucket_codec.specs.declared.encoding.Bucket.{Bucket as BucketToAir}
 use Rattle.bucket_codec.specs.declared.encoding.Body.{Body as BodyToAir}

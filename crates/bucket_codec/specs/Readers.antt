@@ -1,5 +1,5 @@
--- What a reader of a tape has still to give where no whole record is left.
--- Beside these two, a reader has a first record and what follows it (`with_record`).
+-- What a reader of a tape has still to give if no whole record is left. Otherwise a reader has a first record and what follows
+-- it (`with_record`).
 use Rattle.std.specs.Prelude.{[], Some, None}
 use Rattle.air_model.specs.Tapes.{TapeRead}
 use Rattle.bucket_codec.specs.declared.tape.TapeFault.{TapeFault}

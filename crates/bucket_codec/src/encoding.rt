@@ -1,7 +1,7 @@
 //! A bucket to be aired, and its bytes.
 //!
-//! The head is written from front to back and the entries behind it, each byte once. What stands behind
-//! the bucket isn't touched. The sender and the station air what is written here.
+//! The head is written from front to back, then the entries, each byte once. What comes after the bucket in `out` isn't
+//! changed. The sender and the station air what is written here.
 
 ghost use Rattle.std.specs.Prelude.{◌≡◌, ◌≤◌, ◌<◌, ◌+◌, ◌*◌, ◌++◌, All, drop, length, take, Ok};
 ghost use Rattle.std.specs.List.{flat_map};
@@ -20,7 +20,7 @@ use byteorder::{BigEndian, ByteOrder};
 /// A bucket to be aired: its version, its place on the air, and what it carries.
 #[derive(Clone, Copy, Debug)]
 pub struct Bucket<'a> {
-    /// How its entries are told: 1 in full, 2 by their ages.
+    /// How the entries are given: 1 in full, 2 by their ages.
     pub version: u8,
     /// The edition of the program.
     pub edition: u16,
@@ -28,14 +28,14 @@ pub struct Bucket<'a> {
     pub cycle: u32,
     /// The slot, from 0.
     pub slot: u16,
-    /// What it carries.
+    /// What the bucket carries.
     pub body: Body<'a>,
 }
 
-/// What a bucket carries. Its entries are the history's, in each version.
+/// What a bucket carries. Its entries are the history's, in any version.
 #[derive(Clone, Copy, Debug)]
 pub enum Body<'a> {
-    /// No item, for so many items in all.
+    /// No item; there are this many items in all.
     Idle {
         count: u16,
     },
@@ -150,7 +150,7 @@ fn put_head(out: &mut [u8], head: &Head)
     put_eight(out, VALUE, head.value);
 }
 
-/// Writes the entries behind the head, in full.
+/// Writes the entries after the head, in full.
 fn put_entries(out: &mut [u8], entries: &[u32])
     requires { HEAD_BYTES + ENTRY_BYTES * length entries.now ≤ length out.old }
     ensures { out.new ≡ take HEAD_BYTES out.old ++ (flat_map (big_bytes 4) entries.now ++ drop (HEAD_BYTES + ENTRY_BYTES * length entries.now) out.old) }
@@ -160,7 +160,7 @@ fn put_entries(out: &mut [u8], entries: &[u32])
     }
 }
 
-/// Writes the ages of the entries behind the head.
+/// Writes the ages of the entries after the head.
 fn put_ages(out: &mut [u8], cycle: u32, entries: &[u32])
     requires room { HEAD_BYTES + length entries.now ≤ length out.old }
     requires below { All (λ e. e < cycle) entries.now }
@@ -171,7 +171,7 @@ fn put_ages(out: &mut [u8], cycle: u32, entries: &[u32])
     }
 }
 
-/// Writes the entries behind the head as the version tells them.
+/// Writes the entries after the head as the version gives them.
 fn put_told(out: &mut [u8], version: u8, cycle: u32, entries: &[u32])
     requires room { HEAD_BYTES + entry_len version * length entries.now ≤ length out.old }
     requires below { All (λ e. e < cycle) entries.now }
@@ -185,16 +185,16 @@ fn put_told(out: &mut [u8], version: u8, cycle: u32, entries: &[u32])
     }
 }
 
-/// How many bytes a bucket has: those of the head and of each entry.
+/// The number of bytes of a bucket: those of the head and of each entry.
 pub fn size_of(bucket: &Bucket<'_>) -> usize
     ensures { result ≡ length (spelling (bucket_to_air bucket.now)) }
 {
     HEAD_BYTES + entry_size(bucket.version) * entries(bucket).len()
 }
 
-/// Writes a bucket's bytes to the front of `out` and answers how many there are. From version 2 on an entry that is too old for
-/// an age is told as 0. That a bucket told so is in range who makes it has to know: the law `range_law` of `air_model` says it of
-/// every bucket of a history that can be aired. `size_of` tells how much room it takes.
+/// Writes a bucket's bytes to the front of `out` and gives their number. From version 2 on an entry that is too old for an age
+/// is written as 0. The caller has to know that the bucket with such entries is in range: `range_law` of `air_model` says it of
+/// every bucket of a history that can be aired. `size_of` gives the room that is needed.
 pub fn encode(bucket: &Bucket<'_>, out: &mut [u8]) -> usize
     requires range { IsInRange (capped_bucket (bucket_to_air bucket.now)) }
     requires room { length (spelling (bucket_to_air bucket.now)) ≤ length out.old }

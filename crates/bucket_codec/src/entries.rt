@@ -1,7 +1,7 @@
 //! The entries of a bucket in its bytes, by version.
 //!
-//! In version 1 an entry stands as it is, in four bytes; from version 2 on its age does, in one byte. The age is how many cycles
-//! before the bucket's own one the entry's cycle is; 255 stands for the entry 0. `encoding` makes ages here; `view` tests and
+//! In version 1 an entry is in the bytes as it is, in four bytes. From version 2 on its age is there, in one byte: the number
+//! of cycles from the entry's cycle to the bucket's own, or 255 for the entry 0. `encoding` makes ages here; `view` tests and
 //! reads entries here.
 
 ghost use Rattle.std.specs.Prelude.{◌≡◌, ◌≤◌, ◌<◌, ◌+◌, ◌*◌, ◌==◌, true, length};
@@ -13,17 +13,17 @@ use crate::offsets::{AGE_BYTES, ENTRY_BYTES, HEAD_BYTES};
 use air_base::limits::{AGE_CAP, MOST_FULL_ITEMS, MOST_ITEMS};
 use byteorder::{BigEndian, ByteOrder};
 
-/// The age that tells the entry 0.
+/// The age of the entry 0.
 const NO_WRITER: u8 = AGE_CAP as u8;
 
-/// Whether entries are told by their ages.
+/// Whether entries are given by their ages.
 pub(crate) fn tells_ages(version: u8) -> bool
     ensures { result ≡ has_ages version }
 {
     version >= 2
 }
 
-/// How many bytes an entry has.
+/// The number of bytes of an entry.
 pub fn entry_size(version: u8) -> usize
     ensures { result ≡ entry_len version }
 {
@@ -47,7 +47,7 @@ pub(crate) fn most_items(version: u8) -> usize
 
 // ---- one entry
 
-/// The age that tells an entry in a cycle. An entry too old for an age is told as 0.
+/// The age of an entry in a cycle. An entry too old for an age gets the age of the entry 0.
 pub(crate) fn age_in(cycle: u32, entry: u32) -> u8
     requires { entry < cycle }
     ensures { result ≡ age_of cycle (capped entry cycle) }
@@ -64,7 +64,7 @@ fn is_age(byte: u8, cycle: u8) -> bool
     (byte == NO_WRITER) | ((byte >= 1) & (byte < cycle))
 }
 
-/// The entry that an age tells in a cycle.
+/// The entry that an age gives in a cycle.
 #[tactic(auto, unfolding(air_model::specs::Buckets::entry_told))]
 fn entry_of_age(cycle: u32, age: u8) -> u32
     requires { is_entry 2 cycle age ≡ true }
@@ -77,7 +77,7 @@ fn entry_of_age(cycle: u32, age: u8) -> u32
     }
 }
 
-/// The entry of an item that stands in full.
+/// The entry of an item, read in full.
 fn entry_at(bytes: &[u8], i: usize) -> u32
     requires { HEAD_BYTES + ENTRY_BYTES * i + ENTRY_BYTES ≤ length bytes.now }
     ensures { result ≡ number_at (HEAD_BYTES + ENTRY_BYTES * i) ENTRY_BYTES bytes.now }
@@ -100,7 +100,7 @@ pub(crate) fn told_at(bytes: &[u8], version: u8, cycle: u32, i: u16) -> u32
 
 // ---- all entries
 
-/// Whether each of the first `n` entries is below the cycle. It looks at all of them, several at a time.
+/// Whether each of the first `n` entries is below the cycle. It tests all of them, several at a time.
 fn entries_below(bytes: &[u8], n: u16, cycle: u32) -> bool
     requires { HEAD_BYTES + ENTRY_BYTES * n ≤ length bytes.now }
     ensures { result ≡ list_all (is_entry 1 cycle) (raw_entries 1 n bytes.now) }
@@ -112,7 +112,7 @@ fn entries_below(bytes: &[u8], n: u16, cycle: u32) -> bool
     below
 }
 
-/// Whether each of the first `n` bytes of the entries is an age in the cycle. It looks at all of them, several at a time.
+/// Whether each of the first `n` bytes of the entries is an age in the cycle. It tests all of them, several at a time.
 fn are_ages(bytes: &[u8], n: u16, cycle: u32) -> bool
     requires { HEAD_BYTES + n ≤ length bytes.now }
     ensures { result ≡ list_all (is_entry 2 cycle) (raw_entries 2 n bytes.now) }
@@ -125,7 +125,7 @@ fn are_ages(bytes: &[u8], n: u16, cycle: u32) -> bool
     ages
 }
 
-/// Whether what stands for each of the first `n` entries is one in the cycle.
+/// Whether the number of each of the first `n` entries stands for an entry in the cycle.
 pub(crate) fn are_entries(bytes: &[u8], version: u8, n: u16, cycle: u32) -> bool
     requires { HEAD_BYTES + entry_len version * n ≤ length bytes.now }
     ensures { result ≡ list_all (is_entry version cycle) (raw_entries version n bytes.now) }
@@ -137,7 +137,7 @@ pub(crate) fn are_entries(bytes: &[u8], version: u8, n: u16, cycle: u32) -> bool
     }
 }
 
-/// Fills a slice with entries that stand in full.
+/// Fills a slice with entries that are in full.
 fn fill_in_full(bytes: &[u8], out: &mut [u32])
     requires { HEAD_BYTES + ENTRY_BYTES * length out.old ≤ length bytes.now }
     ensures { out.new ≡ raw_entries 1 (length out.old) bytes.now }
@@ -147,7 +147,7 @@ fn fill_in_full(bytes: &[u8], out: &mut [u32])
     }
 }
 
-/// Fills a slice with entries that their ages tell.
+/// Fills a slice with the entries that their ages give.
 fn fill_by_ages(bytes: &[u8], cycle: u32, out: &mut [u32])
     requires long { HEAD_BYTES + length out.old ≤ length bytes.now }
     requires told { list_all (is_entry 2 cycle) (raw_entries 2 (length out.old) bytes.now) ≡ true }

@@ -1,8 +1,9 @@
 //! Buckets and tapes as bytes, both ways.
 //!
-//! `encoding` writes the one spelling of a bucket, `view` reads a bucket out of a datagram or names its first fault,
-//! `tape` writes records and reads them back; `offsets` says where each field stands, `entries` how entries stand in each version. The words of the
-//! contracts are those of `air_model`. No call takes memory: entries and records are lent from the bytes that were given.
+//! `encoding` writes the one spelling of a bucket, `view` reads a bucket from a datagram or names its first fault, and `tape`
+//! writes records and reads them back. `offsets` says where each field is, and `entries` how each version has the entries. The
+//! contracts use the definitions of `air_model`. No call takes memory: entries and records are lent from the bytes that were
+//! given.
 #![tactic(auto)]
 
 pub mod encoding;

@@ -1,4 +1,4 @@
-//! Where the fields of a bucket stand, and how many bytes the head, an entry, an age and the length of a record have.
+//! Where the parts of a bucket's head are, and how many bytes the head, an entry, an age and the length of a record have.
 
 /// The version's byte.
 pub const VERSION: usize = 2;
@@ -24,14 +24,14 @@ pub const ITEM: usize = 14;
 /// The first byte of the value.
 pub const VALUE: usize = 16;
 
-/// The bytes of the head. The entries begin behind it.
+/// The bytes of the head. The entries begin after it.
 pub const HEAD_BYTES: usize = 24;
 
 /// The bytes of an entry in full. No entry has more.
 pub const ENTRY_BYTES: usize = 4;
 
-/// The bytes of an entry that is told by its age.
+/// The bytes of an entry that is given by its age.
 pub const AGE_BYTES: usize = 1;
 
-/// The bytes of the length that stands before a bucket on a tape.
+/// The bytes of the length that is before a bucket on a tape.
 pub const LENGTH_BYTES: usize = 4;

@@ -1,7 +1,7 @@
-//! A tape: records one after the other, each with its length in four bytes before it.
+//! A tape: records one after another, each with its length in four bytes before it.
 //!
-//! A reader is seen as what its tape has still to give: the whole records that are left, and the byte at which the tape
-//! is cut, if it is. A reader that gave its last record stays as it is, so it answers the same at each later call.
+//! Contracts see a reader as what its tape has still to give: the whole records that are left, and the byte at which the tape
+//! is cut, if it is cut. A reader that gave its last record doesn't change any more, so each later call gives the same answer.
 //! The sender writes records, `tune` reads them.
 
 ghost use Rattle.std.specs.Prelude.{◌≡◌, ◌≤◌, ◌<◌, ◌+◌, ◌++◌, ◌^◌, true, None, MatchOption, MatchResult, IfErr, IfSome, OnOk, drop, length};
@@ -32,7 +32,7 @@ impl fmt::Display for TapeFault {
 
 impl Error for TapeFault {}
 
-/// Writes the length and the bytes of a record to the front of `out` and answers how many there are.
+/// Writes the length and the bytes of a record to the front of `out` and gives the number of bytes written.
 pub fn tape_record(bytes: &[u8], out: &mut [u8]) -> usize
     requires short { length bytes.now < 2 ^ 32 }
     requires room { LENGTH_BYTES + length bytes.now ≤ length out.old }
@@ -44,7 +44,7 @@ pub fn tape_record(bytes: &[u8], out: &mut [u8]) -> usize
     LENGTH_BYTES + bytes.len()
 }
 
-/// The first record of what is left of a tape, or none where the tape ends inside it.
+/// The first record of the rest of a tape; None if the tape ends inside it.
 fn first_record<'a>(rest: &'a [u8]) -> Option<&'a [u8]>
     requires { 0 < length rest.now }
     ensures first { MatchOption result (ends_inside rest.now ≡ true) (λ r. rest.now ≡ record_bytes r.now ++ drop (LENGTH_BYTES + length r.now) rest.now) }
@@ -61,7 +61,7 @@ fn first_record<'a>(rest: &'a [u8]) -> Option<&'a [u8]>
     Some(&rest[LENGTH_BYTES..LENGTH_BYTES + len])
 }
 
-/// The records of a tape, one after the other, lent from its bytes.
+/// The records of a tape, one after another, lent from its bytes.
 #[derive(Drop)]
 pub struct TapeReader<'a> {
     rest: &'a [u8],
@@ -87,7 +87,7 @@ impl<'a> TapeReader<'a> {
         TapeReader { rest: bytes, at: 0 }
     }
 
-    /// The next whole record, or none at the end of the tape.
+    /// The next whole record; None at the end of the tape.
     pub fn next(&mut self) -> Result<Option<&'a [u8]>, TapeFault>
         ensures { MatchResult result
             (λ o. MatchOption o ((self.old ≡ nothing_left) × (self.new ≡ self.old)) (λ r. self.old ≡ with_record r.now self.new))
@@ -108,7 +108,7 @@ impl<'a> TapeReader<'a> {
         }
     }
 
-    /// The next record of a tape that isn't cut; none at its end.
+    /// The next record of a tape that isn't cut; None at its end.
     pub fn next_whole(&mut self) -> Option<&'a [u8]>
         requires { self.old.cut ≡ None }
         ensures { MatchOption result ((self.old ≡ nothing_left) × (self.new ≡ self.old)) (λ r. self.old ≡ with_record r.now self.new) }

@@ -1,7 +1,7 @@
 //! A bucket in a datagram: read without a copy, or refused by the first fault that applies.
 //!
-//! A view is seen as the bucket that its bytes spell, and exists for such bytes alone. `decode` looks at each byte at
-//! most once; the readers look at theirs again. The receiver stands on this file.
+//! Contracts see a view as the bucket that its bytes spell; views exist only for such bytes. `decode` reads each byte at most
+//! once; the readers read theirs again. The receiver uses this file.
 
 ghost use Rattle.std.specs.Prelude.{◌≡◌, ◌≢◌, ◌≤◌, ◌<◌, ◌+◌, ◌*◌, ◌&&◌, ◌||◌, ◌==◌, nat_le, MatchResult, Ok, length, slice_index};
 ghost use Rattle.std.specs.List.{flat_map};
@@ -66,7 +66,7 @@ fn eight_at(bytes: &[u8], at: usize) -> u64
     BigEndian::read_u64(&bytes[at..])
 }
 
-/// Whether item and value are those of the kind.
+/// Whether item and value fit the kind.
 #[tactic(auto, unfolding(air_model::specs::Buckets::is_placed))]
 fn has_place(kind: u8, item: u16, value: u64, count: u16) -> bool
     ensures { result ≡ is_placed kind item value count }
@@ -78,21 +78,21 @@ fn has_place(kind: u8, item: u16, value: u64, count: u16) -> bool
     }
 }
 
-/// Whether there is this version.
+/// Whether this version exists.
 fn is_version(version: u8) -> bool
     ensures { result ≡ ((version == 1) || (version == 2)) }
 {
     version == 1 || version == 2
 }
 
-/// Whether count and cycle are in their limits.
+/// Whether count and cycle are within their limits.
 fn in_limits(version: u8, count: u16, cycle: u32) -> bool
     ensures { result ≡ (nat_le 1 count && nat_le count (most_count version) && nat_le 1 cycle) }
 {
     (count >= 1) & (count as usize <= most_items(version)) & (cycle >= 1)
 }
 
-/// How many entries there are.
+/// The number of entries.
 #[tactic(auto, unfolding(air_model::specs::Buckets::entry_count))]
 fn entries(kind: u8, count: u16) -> u16
     ensures { result ≡ entry_count kind count }
@@ -169,7 +169,7 @@ fn entry_part<'a>(bytes: &'a [u8]) -> &'a [u8]
 }
 
 impl<'a> BucketView<'a> {
-    /// How the entries are told: 1 in full, 2 by their ages.
+    /// How the entries are given: 1 in full, 2 by their ages.
     pub fn version(&self) -> u8
         ensures { result ≡ self.now.version }
     {
@@ -229,7 +229,7 @@ impl<'a> BucketView<'a> {
         eight_at(self.bytes, VALUE)
     }
 
-    /// The entry of an item, where the slot isn't idle: the cycle of a write, in each version.
+    /// The entry of an item, which is the cycle of a write in any version. The slot must not be idle.
     pub fn entry(&self, i: u16) -> u32
         requires busy { kind_of self.now.body ≢ 0 }
         requires below { i < count_of self.now.body }
@@ -238,14 +238,14 @@ impl<'a> BucketView<'a> {
         told_at(self.bytes, self.version(), self.cycle(), i)
     }
 
-    /// The bytes of the entries as they stand, lent from the datagram.
+    /// The bytes of the entries as they are, lent from the datagram.
     pub fn entry_bytes(&self) -> &'a [u8]
         ensures { result.now ≡ flat_map (entry_bytes self.now.version self.now.cycle) (entries_of self.now.body) }
     {
         entry_part(self.bytes)
     }
 
-    /// Fills a slice with the entries, where the slot isn't idle. Each is the cycle of a write, in each version.
+    /// Fills a slice with the entries, each of which is the cycle of a write in any version. The slot must not be idle.
     pub fn fill(&self, out: &mut [u32])
         requires busy { kind_of self.now.body ≢ 0 }
         requires room { length out.old ≡ count_of self.now.body }

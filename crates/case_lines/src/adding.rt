@@ -1,6 +1,6 @@
-//! Lines that tell what came of a case: words with numbers, bytes in hexadecimal digits, and a checksum of what is too long to be told.
+//! Lines of the results of cases: words with numbers, bytes in hexadecimal digits, and a checksum of what is too long to be written out.
 //!
-//! A caller ends each line by a line feed; that of the last one may be left out.
+//! A caller ends each line with a line feed; the last one may be left out.
 
 use crate::reading::first_part;
 use air_base::{NoMemory, write_u64};
@@ -54,7 +54,7 @@ pub fn add_hex(bytes: &[u8], out: &mut Vec<u8>) -> Result<(), NoMemory> {
     Ok(())
 }
 
-/// The same, with a space before each four bytes.
+/// The same, with a space before every four bytes.
 pub fn add_hex_words(bytes: &[u8], out: &mut Vec<u8>) -> Result<(), NoMemory> {
     for word in bytes.chunks(4) {
         out.push(b' ')?;

@@ -1,8 +1,8 @@
 //! Files of cases: the text that a player of cases reads, and the transcript that it prints.
 //!
-//! A line that begins with `#` says what the cases below it show, and an empty line divides. Each other line is a
-//! case: a word, and its parts behind it, with a space before each. The transcript has each line as it is, and below a
-//! case what came of it, four spaces in. So it is read by itself. Below a case that is mistyped stands `bad case: `, and why.
+//! A line that begins with `#` says what the cases below it show, and an empty line separates. Each other line is a case: a word, and its parts after
+//! it, with a space before each. The transcript has each line as it is, and below a case its result, indented by four spaces. So it can be read by
+//! itself. Below a mistyped case it has `bad case: ` and the reason.
 #![tactic(auto)]
 
 mod adding;

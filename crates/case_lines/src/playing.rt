@@ -1,6 +1,6 @@
 //! Plays the cases of a text one after another, and writes the transcript.
 //!
-//! What came of a case is told four spaces in; of a case that is mistyped only what is wrong with it.
+//! The result of a case is indented by four spaces. The result of a mistyped case is only what is wrong with it.
 
 use crate::adding::add_lines;
 use crate::reading::{BadCase, Parts, first_part};
@@ -10,10 +10,10 @@ use std::io::{self, Read, Write};
 
 /// What plays cases. It may keep what earlier cases set.
 pub trait Player {
-    /// What is asked of the runtime that a player holds, such as that threads may share it.
+    /// What a player needs of the runtime that it holds, such as that threads may share it.
     ghost needs: { Type 0 } = { Unit {0} };
 
-    /// Plays the case of a word, takes its parts, and adds the lines that came of it.
+    /// Plays the case of a word, takes its parts, and adds the lines of its result.
     fn play(
         &mut self,
         alloc: Global,
@@ -24,7 +24,7 @@ pub trait Player {
         requires { needs };
 }
 
-/// Adds what is wrong with a case, if something is. A part that is left is too many.
+/// Adds what is wrong with a case, if something is. A part that is left is one too many.
 fn add_bad(parts: &mut Parts<'_>, out: &mut Vec<u8>) -> Result<(), NoMemory> {
     if parts.left() > 0 {
         parts.refuse(BadCase::TooMany);
@@ -37,7 +37,7 @@ fn add_bad(parts: &mut Parts<'_>, out: &mut Vec<u8>) -> Result<(), NoMemory> {
     Ok(())
 }
 
-/// Adds the line and, where it is a case, what came of it.
+/// Adds the line and, if it is a case, its result.
 fn play_line<P: Player>(
     alloc: Global,
     player: &mut P,
@@ -61,7 +61,7 @@ fn play_line<P: Player>(
     add_bad(&mut parts, out)
 }
 
-/// The transcript of the cases, each line ended by a line feed.
+/// The transcript of the cases; each line ends with a line feed.
 fn play<P: Player>(alloc: Global, player: &mut P, cases: &[u8]) -> Result<Vec<u8>, NoMemory>
     requires { P.needs }
 {

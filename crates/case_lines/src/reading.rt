@@ -1,7 +1,7 @@
-//! The parts of a case: what stands behind its word, and the first thing in it that is mistyped.
+//! The parts of a case: what follows its word, and the first thing in it that is mistyped.
 //!
-//! A player takes one part after another. Where a part isn't what it is taken as, that is noted, and 0 or no bytes are given; `playing`
-//! tells the note in place of what came of the case. A part that is left is told there too.
+//! A player takes one part after another. If a part isn't what it is taken as, that is noted, and the player gets 0 or no bytes. `playing` writes the
+//! note in place of the result of the case, also for a part that is left.
 
 use air_base::{NoMemory, Policy, read_u64};
 use std::alloc::Global;
@@ -9,21 +9,21 @@ use std::alloc::Global;
 /// What is mistyped in a case.
 #[derive(Drop)]
 pub enum BadCase {
-    /// A word that isn't one of those that may stand there.
+    /// A word that isn't one of those expected there.
     NoSuchWord,
     /// A part that isn't there.
     Missing,
-    /// A part that is too many.
+    /// A part too many.
     TooMany,
     /// A part that spells no number.
     NoNumber,
     /// A number of more bits than are taken.
     TooGreat,
-    /// Two characters that spell no byte: no hexadecimal digits, or a backslash with no letter that it goes with.
+    /// Two characters that spell no byte: not hexadecimal digits, or a backslash with another letter than those of escapes.
     NoByte,
     /// A part that spells no write.
     NoWrite,
-    /// A call that its contract forbids, or of something that was not made before.
+    /// A call that its contract forbids, or on something that was not made before.
     NoCall,
 }
 
@@ -34,7 +34,7 @@ pub struct Parts<'a> {
     bad: Option<BadCase>,
 }
 
-/// The text up to the first such byte, and what is behind it.
+/// The text up to the first such byte, and what follows it.
 pub fn first_part(text: &[u8], between: u8) -> (&[u8], &[u8]) {
     for (at, byte) in text.iter().enumerate() {
         if *byte == between {
@@ -45,7 +45,7 @@ pub fn first_part(text: &[u8], between: u8) -> (&[u8], &[u8]) {
 }
 
 impl BadCase {
-    /// What stands in the transcript.
+    /// The text of the note in the transcript.
     pub fn as_text(&self) -> &'static [u8] {
         match self {
             BadCase::NoSuchWord => b"no such word",
@@ -61,7 +61,7 @@ impl BadCase {
 }
 
 impl<'a> Parts<'a> {
-    /// The parts of a text, a space before each further one.
+    /// The parts of a text, with a space before each but the first.
     pub fn new(text: &'a [u8]) -> Parts<'a> {
         Parts {
             rest: text,
@@ -69,7 +69,7 @@ impl<'a> Parts<'a> {
         }
     }
 
-    /// Notes what is mistyped. The first note stays.
+    /// Notes what is mistyped. Only the first note is kept.
     pub fn refuse(&mut self, bad: BadCase) {
         if self.bad.is_none() {
             self.bad = Some(bad);
@@ -81,7 +81,7 @@ impl<'a> Parts<'a> {
         self.bad.as_ref()
     }
 
-    /// How many bytes are left, at least one for each part.
+    /// The number of bytes that are left, at least one for each part.
     pub fn left(&self) -> usize {
         self.rest.len()
     }
@@ -103,7 +103,7 @@ impl<'a> Parts<'a> {
         part
     }
 
-    /// Takes the next part where it is this word, and tells whether it is.
+    /// Takes the next part if it is this word, and returns whether it is.
     pub fn takes(&mut self, word: &[u8]) -> bool {
         let (part, rest) = first_part(self.rest, b' ');
         if part != word {

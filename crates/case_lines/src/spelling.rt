@@ -20,7 +20,7 @@ fn byte_of(high: u8, low: u8) -> Option<u8> {
     Some(digit(high)? << 4 | digit(low)?)
 }
 
-/// The byte that a letter behind a backslash stands for.
+/// The byte that a letter after a backslash stands for.
 fn escaped(letter: u8) -> Option<u8> {
     match letter {
         b'n' => Some(b'\n'),
@@ -57,7 +57,7 @@ impl Parts<'_> {
         Ok(())
     }
 
-    /// The bytes that pairs of hexadecimal digits spell; spaces between pairs are passed over.
+    /// The bytes that pairs of hexadecimal digits spell; spaces between pairs are skipped.
     pub fn decode(&mut self, alloc: Global, spelled: &[u8]) -> Result<Vec<u8>, NoMemory> {
         let mut bytes = Vec::new(alloc);
         let mut rest = spelled;
@@ -84,8 +84,8 @@ impl Parts<'_> {
         self.decode(alloc, spelled)
     }
 
-    /// The text that what is left spells in one line: ` | ` is a line feed, and so is ` |` at the end; `\n`, `\r`, `\t`, `\s`
-    /// (a space) and `\\` are these bytes, and `\xff` the byte of these two digits.
+    /// The text that the rest spells in one line. ` | ` is a line feed, and so is ` |` at the end. `\n`, `\r`, `\t`, `\s` (a space) and `\\` are
+    /// these bytes, and `\xff` is the byte of these two digits.
     pub fn text(&mut self, alloc: Global) -> Result<Vec<u8>, NoMemory> {
         let spelled = self.rest();
         let mut text = Vec::new(alloc);

@@ -14,7 +14,7 @@ pub fn add_items(items: &[u16], out: &mut Vec<u8>) -> Result<(), NoMemory> {
     Ok(())
 }
 
-/// Adds each write: its item, its base where it has one, and its amount.
+/// Adds each write: its item, its base if it has one, and its amount.
 pub fn add_writes(writes: &[Write], out: &mut Vec<u8>) -> Result<(), NoMemory> {
     for write in writes {
         out.push(b' ')?;

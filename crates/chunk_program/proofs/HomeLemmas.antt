@@ -1,9 +1,9 @@
 -- The numbers of an item's home: `home_numbers` says all that is known of them, where the program isn't too long.
 -- `held_item` finds the disk and the place of each item below the number of items.
-use Rattle.std.proofs.Common.{◌≡◌, ◌≤◌, ◌<◌, ◌⊎◌, inl, inr, ◌+◌, ◌*◌, ◌%◌, ℕ, zero, suc, zero-add, Some, List, [], ◌∷◌, length, get_or, slice_get, take, refl, sym, subst, ap, ◌∙◌, arith}
+use Rattle.std.proofs.Common.{◌≡◌, ◌≤◌, ◌<◌, ◌⊎◌, inl, inr, ◌+◌, ◌*◌, ◌%◌, ℕ, zero, suc, zero-add, Some, List, [], ◌∷◌, ◌++◌, length, get_or, slice_get, take, refl, sym, subst, ap, ◌∙◌, arith}
 use Rattle.std.specs.List.{Contains}
 use Rattle.std.proofs.lemmas.List.Elements.{Contains-append_cases}
-use Rattle.std.proofs.lemmas.Option.{same_Some, slice_get_read, slice_get_within}
+use Rattle.std.proofs.lemmas.Option.{none-some, same_Some, slice_get_read, slice_get_within}
 use Rattle.std.proofs.Math.Nat.{mod-eq_of_lt}
 use Rattle.air_base.specs.declared.limits.TheConstants.{MOST_SLOTS}
 use Rattle.air_model.specs.Disks.{Disk, all_items}
@@ -13,7 +13,8 @@ use Rattle.air_model.proofs.ProgramLemmas.{chunks_are, item_airings, item_next_w
 use Rattle.air_model.proofs.Elements.{contains_has, has_contains}
 use Rattle.air_model.proofs.Periods.{ComesAt}
 use Rattle.air_model.proofs.SlotPlaces.{chunk_some, comes_at, disk_gap, first_below, place_slot, slots_of}
-use Rattle.chunk_program.specs.Homes.{FitsHome, first_slot}
+use Rattle.chunk_program.specs.declared.homes.Home.{Home}
+use Rattle.chunk_program.specs.Homes.{FitsHome, IsHome, first_slot}
 use Rattle.chunk_program.specs.CutConditions.{AreDeckDisks}
 use Rattle.chunk_program.specs.Places.{place_number}
 use Rattle.chunk_program.proofs.ChunkLemmas.{chunks_some, freq_some}
@@ -147,3 +148,19 @@ home_known disks i n q m row slots_before d limits below number place is short m
     let same : found.0 ≡ d = same_Some found.0 d (sym found.1.at ∙ at) in
     let held = subst (λ q. IsHeld disks i n q d) (sym place) (subst (λ n. IsHeld disks i n (place_number disks i) d) (sym number) (subst (λ (x : Disk). IsHeld disks i (disk_number disks i) (place_number disks i) x) same found.1)) in
     home_numbers disks i n q m row slots_before d limits held short minors rows counted
+
+-- ---- the homes of all items
+
+each_one : {A : Type 0} (P : ℕ → A → Type 0) (xs : List A) (y : A) → ((k : ℕ) (x : A) → slice_get xs k ≡ Some x → P k x) → P (length xs) y
+    → (k : ℕ) (x : A) → slice_get (xs ++ y ∷ []) k ≡ Some x → P k x
+each_one P [] y old new zero x at = subst (P 0) (same_Some y x at) new
+each_one P [] y old new (suc k) x at = absurd (none-some x at)
+each_one P (first ∷ xs) y old new zero x at = old 0 x at
+each_one P (first ∷ xs) y old new (suc k) x at = each_one (λ i. P (suc i)) xs y (λ i z h. old (suc i) z h) new k x at
+
+-- With the home of the next item each is its item's.
+pub each_home : (disks : List Disk) (homes more : List Home) (item : ℕ) (h : Home) → more ≡ homes ++ h ∷ [] → length homes ≡ item
+    → ((i : ℕ) (k : Home) → slice_get homes i ≡ Some k → IsHome disks i k) → IsHome disks item h
+    → (i : ℕ) (k : Home) → slice_get more i ≡ Some k → IsHome disks i k
+each_home disks homes more item h is len old new i k at =
+    each_one (IsHome disks) homes h old (subst (λ n. IsHome disks n h) (sym len) new) i k (sym (ap (λ hs. slice_get hs i) is) ∙ at)

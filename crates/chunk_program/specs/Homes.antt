@@ -1,13 +1,14 @@
--- What is known of an item in a program: how often it comes, how far apart, where first, and its number of chunks.
+-- What is known of an item in a program: its disk, how often it comes, how far apart, where first, and its number of chunks.
 use Rattle.std.specs.Prelude.{◌≡◌, ◌<◌, ◌≤◌, ℕ, ◌+◌, ◌*◌, ◌/◌, ◌%◌, List}
 use Rattle.air_base.specs.declared.limits.TheConstants.{MOST_SLOTS}
 use Rattle.air_model.specs.Disks.{Disk}
 use Rattle.air_model.specs.Programs.{chunk_len, num_chunks, program}
-use Rattle.air_model.specs.Airings.{airings, chunks_of, gap_of, next_wake}
+use Rattle.air_model.specs.Airings.{airings, chunks_of, disk_number, gap_of, next_wake}
 use Rattle.chunk_program.specs.declared.homes.Home.{Home}
 
--- A home is the item's where its four numbers are the item's in the program of the disks.
+-- A home is the item's where its five numbers are the item's in the program of the disks.
 pub record IsHome (disks : List Disk) (i : ℕ) (h : Home) : Type 0 where
+  pub disk : h.disk ≡ disk_number disks i
   pub times : h.times ≡ airings (program disks) i
   pub gap : h.gap ≡ gap_of disks i
   pub first : h.first ≡ next_wake (program disks) 0 i

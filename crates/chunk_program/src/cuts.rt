@@ -71,7 +71,7 @@ fn order(alloc: Global, rates: &[u32]) -> Result<Vec<u16>, AllocError>
     Ok(items)
 }
 
-/// Puts the places of a disk's items into the table, whose other cells stay.
+/// Puts the places of a disk's items into the list, of which the others stay.
 fn put_places(places: &mut [DiskPlace], disk: u32, items: &[u16])
     requires within { All (λ i. i < length places.old) items.now }
     requires few { length items.now ≤ ITEM_NUMBERS }

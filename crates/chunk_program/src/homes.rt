@@ -1,6 +1,6 @@
 //! Where each item comes in a cycle, as a table by item.
 //!
-//! Four numbers an item, made from its disk and its place on the disk: all that a receiver asks of a program follows
+//! Five numbers an item, made from its disk and its place on the disk: all that a receiver or a plan asks of a program follows
 //! from them in one step.
 
 ghost use Rattle.std.specs.Prelude.{◌≡◌, ℕ, ◌*◌, ◌<◌, ◌≤◌, IfOk, Some, length, slice_get};
@@ -16,18 +16,28 @@ use crate::disks::Disk;
 use crate::layout::len_before;
 use std::alloc::{AllocError, Global};
 
-/// How often a cycle airs an item, how far apart and in which slot first, and the number of its disk's chunks.
+/// The number of an item's disk, how often a cycle airs the item, how far apart and in which slot first, and the number of its disk's
+/// chunks.
 #[derive(Clone, Copy)]
 pub struct Home {
+    pub disk: u32,
     pub times: u32,
     pub gap: u32,
     pub first: u32,
     pub chunks: u32,
 }
 
-/// The home of the item at a place of a disk, whose chunks begin behind so many slots of a minor cycle.
-fn home_at(disk: &Disk, minors: u64, minor_slots: u64, slots_before: u64, place: u32) -> Home
+/// The home of the item at a place of a disk of this number, whose chunks begin behind so many slots of a minor cycle.
+fn home_at(
+    disk: &Disk,
+    number: u32,
+    minors: u64,
+    minor_slots: u64,
+    slots_before: u64,
+    place: u32,
+) -> Home
     requires { FitsHome minors minor_slots slots_before place disk.now }
+    ensures disk { result.disk ≡ number }
     ensures times { result.times ≡ disk.now.freq }
     ensures gap { result.gap ≡ num_chunks minors disk.now * minor_slots }
     ensures first { result.first ≡ first_slot minors minor_slots slots_before place disk.now }
@@ -37,6 +47,7 @@ fn home_at(disk: &Disk, minors: u64, minor_slots: u64, slots_before: u64, place:
     let len = disk.chunk_len(minors);
     let place = u64::from(place);
     Home {
+        disk: number,
         times: disk.freq(),
         gap: (chunks * minor_slots) as u32,
         first: (place / len * minor_slots + (slots_before + place % len)) as u32,
@@ -53,11 +64,19 @@ fn home_of(cut: &Cut, minors: u64, minor_slots: u64, item: u16) -> Home
     requires item { item < length (all_items cut.now) }
     ensures { IsHome cut.now item result }
 {
-    let number = cut.disk_of(item) as usize;
+    let disk = cut.disk_of(item);
+    let number = disk as usize;
     let place = cut.place_of(item);
     let disks = cut.disks();
     let slots_before = len_before(disks, minors, number);
-    home_at(&disks[number], minors, minor_slots, slots_before, place)
+    home_at(
+        &disks[number],
+        disk,
+        minors,
+        minor_slots,
+        slots_before,
+        place,
+    )
 }
 
 /// The homes of all items, by number.

@@ -223,6 +223,14 @@ impl Program {
         self.slots[slot as usize]
     }
 
+    /// The number of the disk that holds an item.
+    pub fn disk_of(&self, item: u16) -> u32
+        requires { item < length (all_items self.now.disks) }
+        ensures { result ≡ disk_number self.now.disks item }
+    {
+        self.home(item).disk
+    }
+
     /// How often a cycle airs an item: exactly as often as its disk's frequency says.
     pub fn times(&self, item: u16) -> u32
         requires { item < length (all_items self.now.disks) }

@@ -1,5 +1,5 @@
--- The two searches together name the clash by the entries: each names the least of the reads that pass its test, and the
--- lesser of both is the least of the reads that pass either.
+-- The two searches together name the clash by the entries. Each names the least of the reads that pass its test, and the lesser
+-- of both is the least of the reads that pass either.
 use Rattle.std.proofs.Common.{◌≡◌, ◌||◌, ◌⊎◌, inl, inr, Bool, true, false, cond, nat_le, List, Option, Some, None, refl, sym, ◌∙◌, subst, arith}
 use Rattle.std.specs.Prelude.{Any}
 use Rattle.std.proofs.lemmas.Bool.{leb-true, leb-false, both_ways}
@@ -63,7 +63,7 @@ both_names p q R (Some c) (Some e) n m = by (nat_le c.item e.item) refl
       least = λ k d l t. let low = leb-false _ _ le in elim (either _ _ t) [ inl passes ↦ let other = n.least k d l passes in omega arith | inr passes ↦ m.least k d l passes ];
     }
 
--- The lesser of what the two searches answer is the clash by the entries.
+-- The lesser of the two searches' answers is the clash by the entries.
 pub both_is : (R : List HeardRead) (x : HeardRead) (a b o : Option Clash) → AreHeldOnce R → a ≡ heard_clash (is_reached x.entries) R →
     b ≡ heard_clash (has_since x.item x.cycle) R → o ≡ lesser_of_both a b → o ≡ clash_by_entries FMatrix R x
 both_is R x a b o once by_new by_held lesser =

@@ -11,7 +11,7 @@ pub least_is : (R : List HeardRead) (x : HeardRead) → heard_clash (disagree x)
 unfolding clash_by_entries
 least_is R x = refl
 
--- No read disagrees where there is no clash, and a clash is the least of those that do.
+-- If there is no clash, no read disagrees; a clash is the least of those that disagree.
 abbrev NamesLeast : List HeardRead → HeardRead → Option Clash → Type 0
 NamesLeast R x o = MatchOption o (All (λ r. disagree x r ≡ false) R) (IsLeastClash R x)
 

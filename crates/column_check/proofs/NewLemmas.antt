@@ -1,4 +1,4 @@
--- What a history airs in a cycle was written before it: each entry of a column is below the column's cycle, also as ages tell it.
+-- What a history airs in a cycle was written before it: each entry of a column is below the column's cycle, also as ages give it.
 use Rattle.std.proofs.Common.{ℕ, ◌≢◌, ◌<◌, ◌≤◌, ◌&&◌, List, length, All, sym, subst}
 use Rattle.air_history.specs.declared.histories.Event.{Event}
 use Rattle.air_history.specs.Places.{place_and}

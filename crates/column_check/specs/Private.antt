@@ -1,2 +1,2 @@
--- Definitions that private steps alone speak of: no public contract cites them, nor what a public type shows.
+-- Definitions for private steps only: no public contract cites them.
 pub mod LesserOfTwo

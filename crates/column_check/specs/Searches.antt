@@ -1,10 +1,10 @@
--- The words of the search for a clash under F-Matrix: it is the least among the held reads that disagree with the new one.
+-- Definitions of the search for a clash under F-Matrix: it is the least among the held reads that disagree with the new one.
 use Rattle.std.specs.Prelude.{◌≡◌, ◌≤◌, Bool, ◌||◌, nat_le, List, All, Any, IsTrue}
 use Rattle.air_base.specs.declared.verdicts.Clash.{Clash}
 use Rattle.air_history.specs.Clashes.{HeardRead, entry_of}
 use Rattle.held_reads.specs.Searches.{clash_of}
 
--- Whether the column of the new read x or of the held read r has the other's item at its cycle or later.
+-- Whether the column of the new read x, or of the held read r, has the other's item at the other's cycle or later.
 abbrev pub disagree : HeardRead → HeardRead → Bool
 disagree x r = nat_le r.cycle (entry_of x r.item) || nat_le x.cycle (entry_of r x.item)
 

@@ -1,4 +1,4 @@
-//! The laws of held reads, each carried by a function that does nothing.
+//! The laws of held reads, each the contract of a function that does nothing.
 
 ghost use Rattle.std.specs.Prelude.{◌≡◌, ◌≢◌, false, List, All, MatchOption};
 ghost use Rattle.air_base.specs.declared.verdicts.Policy.TheVariants.{FMatrix};
@@ -9,14 +9,14 @@ ghost use Rattle.air_history.specs.Columns.{scheme_of};
 ghost use Rattle.air_history.specs.HeldReads.{HeldReads, IsNew};
 ghost use Rattle.column_check.specs.Searches.{disagree, IsLeastClash};
 
-/// F-Matrix names no clash where no held read disagrees with the new one, and else that of least item number.
+/// If no held read disagrees with the new one, F-Matrix names no clash; otherwise it names the one with the least item number.
 pub fn names_least_law()
     ensures { (R : List HeardRead) (x : HeardRead) →
         MatchOption (clash_by_entries FMatrix R x) (All (λ r. disagree x r ≡ false) R) (IsLeastClash R x) }
 {}
 
-/// A read of an item that isn't held, with the column of a history at its cycle, in full or as ages tell it, is a new one: it may
-/// be tried.
+/// A read is a new one, so it may be tried, if its item isn't held and it has the column of a history at its cycle, in full or
+/// as ages give it.
 pub fn aired_is_new_law()
     ensures capped { (held : HeldReads) (H : List Event) (x : HeardRead) →
         HasCappedEntries (scheme_of FMatrix) held.n H x → All (λ r. r.item ≢ x.item) held.reads → IsNew held x }

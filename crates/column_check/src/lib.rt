@@ -1,7 +1,7 @@
-//! The held reads of F-Matrix: whether a new read goes together with those that an attempt holds.
+//! The held reads of F-Matrix: whether a new read is consistent with those that an attempt holds.
 //!
-//! Each read comes with the control column that was heard with it. Two reads clash where either's column has
-//! the other's item at its cycle or later. `ColumnCheck` names the clash of least item, and `Held` are the held reads under it.
+//! Each read has the control column that was heard with it. Two reads clash if either's column has the other's item at the
+//! other's cycle or later. `ColumnCheck` names the clash with the least item number, and `Held` is the held reads under it.
 #![tactic(auto)]
 
 pub mod held;

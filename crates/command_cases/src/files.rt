@@ -1,7 +1,7 @@
 //! The files of the cases: a deck, and a tape or a report.
 //!
-//! `deck` and `report` have a text, `tape` its bytes in hexadecimal digits; `more`, `bytes` and `repeat` go on with the file that was begun
-//! last, and `name` is the name by which notes call it.
+//! `deck` and `report` take a text, `tape` its bytes in hexadecimal digits. `more`, `bytes` and `repeat` continue the file that was begun last, and
+//! `name` sets the name by which notes call it.
 
 use crate::settings::Settings;
 use air_base::NoMemory;
@@ -9,8 +9,8 @@ use air_devices::MemShelf;
 use case_lines::{Parts, first_part};
 use std::alloc::Global;
 
-/// The files of the shelf, and the name by which notes call them. The second is a tape or a report; on the shelf its name is `tape`, and
-/// so is that of the one output.
+/// The files of the shelf, and the name by which notes call them. The second is a tape or a report; its name on the shelf is `tape`, and so is that
+/// of the one output.
 #[derive(Drop)]
 pub struct Files {
     pub deck: Vec<u8>,
@@ -51,7 +51,7 @@ impl Files {
         Ok(())
     }
 
-    /// Begins a file or goes on with one, where the word says so, and tells whether it does.
+    /// Begins or continues a file, if the word says so, and returns whether it does.
     pub fn put(
         &mut self,
         alloc: Global,

@@ -1,10 +1,9 @@
 //! Plays cases of commands over a shelf, a mast and an ear in memory: words in; a status, a text, an output and what was sent out.
 //!
-//! `deck`, `report` and `tape` begin a file, and `more`, `repeat` and `bytes` go on with the one that was begun last: the files stay. What
-//! other words set is of the next command alone. `quiet` plays one through `air_quiet`, `main` through `air_main`, `meet` one whose threads
-//! meet at a gate. After `each` a command is played once for each of some numbers, as with each call failing alone, and numbers of one
-//! outcome are told together. After `brief` only what no schedule changes is told; `lines` counts the lines of the last text that begin with
-//! a front.
+//! `deck`, `report` and `tape` begin a file, and `more`, `repeat` and `bytes` continue the one that was begun last. The files stay; what other words
+//! set is for the next command only. `quiet` plays a command through `air_quiet`, `main` through `air_main`, and `meet` one whose threads meet at a
+//! gate. After `each` a command is played once for each of some numbers, such as with each call failing alone, and numbers with the same result are
+//! written together. After `brief` only what no schedule changes is written. `lines` counts the lines of the last text that begin with a front.
 #![tactic(auto)]
 
 mod files;

@@ -1,9 +1,11 @@
 //! Notes on refused files and words, on failed devices, and on decks that give no verdict.
 //!
-//! `air_note` has the place of the failed call and what failed; `cut_note` the byte at which a tape's last record begins, and the pieces of
-//! the tape in hexadecimal digits; `deck_note`, `report_note` and `known_note` a row, a kind of fault, and a record that is put behind the
-//! file. `known_note` is of a report whose deck is known. By a help of a few commands, `words_note` has words of no form, `no_text_note`
-//! nothing, and `command_help` the name of a command; `silence_note` has the word `script` where the deck's script is looked at.
+//! `air_note` takes the place of the failed call and what failed. `cut_note` takes the byte at which a tape's last record begins, and the pieces of
+//! the tape in hexadecimal digits. `deck_note`, `report_note` and `known_note` take a row, a kind of fault, and a record that is put after the file.
+//! `known_note` is of a report whose deck is known.
+//!
+//! With a help of a few commands, `words_note` takes words that aren't a valid command, `no_text_note` nothing, and `command_help` the name of a
+//! command. `silence_note` takes the word `script` if the deck's script is looked at.
 
 use crate::files::Files;
 use crate::player::words_of;
@@ -42,7 +44,7 @@ fn with_record(alloc: Global, file: &[u8], parts: &mut Parts<'_>) -> Result<Vec<
     Ok(text)
 }
 
-/// The deck of the text, and none where the text is refused.
+/// The deck of the text, or `None` if the text is refused.
 fn deck_of(alloc: Global, text: &[u8]) -> Option<Deck> {
     if text.len() > MOST_DECK_BYTES {
         return None;
@@ -119,7 +121,7 @@ fn help_note(alloc: Global, parts: &mut Parts<'_>) -> Result<Option<String>, NoM
     command_help(alloc, HELP, &command)
 }
 
-/// The note on words of no form.
+/// The note on words that aren't a valid command.
 fn form_note(alloc: Global, parts: &mut Parts<'_>) -> Result<String, NoMemory> {
     let words = words_of(alloc, parts)?;
     words_note(alloc, HELP, &words)

@@ -1,12 +1,12 @@
-//! What is set to one number after the other, each for a run of the same command.
+//! What is set to one number after another, each for a run of the same command.
 //!
-//! `fail` and `air_fail` have the call that fails alone, and `both` one that fails with the next; `room` the bytes that there is room for;
-//! `cut` the length of the tape, `flip` the byte of which the highest bit is changed, and `line` the line that is left out of the report.
+//! `fail` and `air_fail` set the call that fails alone, and `both` one that fails with the next. `room` sets the bytes that there is room for, `cut`
+//! the length of the tape, `flip` the byte of which the highest bit is changed, and `line` the line that is left out of the report.
 
 use air_base::{NoMemory, write_u64};
 use case_lines::{BadCase, Parts};
 
-/// How many numbers there are at most.
+/// The greatest number of numbers.
 const MOST_NUMBERS: u64 = 1_000;
 
 /// What a number is set for.
@@ -30,7 +30,7 @@ pub struct NumberRange {
 }
 
 impl Target {
-    /// What the word says.
+    /// The target of the word.
     fn of(parts: &mut Parts<'_>) -> Target {
         match parts.next() {
             b"fail" => Target::Fail,
@@ -62,7 +62,7 @@ impl Target {
 }
 
 impl NumberRange {
-    /// What the parts say: what is set, the first number and the last.
+    /// The target that the parts name, the first number and the last.
     pub fn of(parts: &mut Parts<'_>) -> NumberRange {
         let what = Target::of(parts);
         let first = parts.number();
@@ -73,7 +73,7 @@ impl NumberRange {
         NumberRange { what, first, end }
     }
 
-    /// Adds the numbers from one to the one before another, and what came of each of them.
+    /// Adds the numbers from one to the one before another, and the result of each of them.
     pub fn add(self, from: u64, end: u64, told: &[u8], came: &mut Vec<u8>) -> Result<(), NoMemory> {
         let last = end.saturating_sub(1);
         came.extend_from_slice(self.what.word())?;

@@ -1,7 +1,7 @@
 //! The player: a word sets something, has a command played, or asks for something of the last one.
 //!
-//! `quiet`, `main` and `meet` have the words of a command, where `''` is an empty one; `lines` has the front of a line. The words that set
-//! something stand in `files` and `settings`, those of notes in `notes`.
+//! `quiet`, `main` and `meet` take the words of a command, with `''` for an empty one; `lines` takes the front of a line. The words that set
+//! something are in `files` and `settings`, those of notes in `notes`.
 
 ghost use Rattle.std.specs.Thread.{IsSync};
 
@@ -19,7 +19,7 @@ use std::alloc::Global;
 use std::sync::Wait;
 use std::thread::Threads;
 
-/// The files, what is set for the next command, what the last one printed, and the threads by which commands go.
+/// The files, what is set for the next command, what the last one printed, and the threads on which commands run.
 #[derive(Drop)]
 pub struct Commands<'r, R> {
     rt: &'r R,
@@ -68,7 +68,7 @@ impl<'r, R: Threads + Wait + Sync> Commands<'r, R> {
         add_end(alloc, self.settings.brief, status, &shelf, came)
     }
 
-    /// Plays any command, round whose commits, cycles and looks the gate is called.
+    /// Plays any command, with a gate that is called before and after each commit, cycle and look.
     fn play_main<G: Gate + Sync>(
         &mut self,
         alloc: Global,
@@ -87,7 +87,7 @@ impl<'r, R: Threads + Wait + Sync> Commands<'r, R> {
         add_air(&mast, &mut ear, self.settings.heard(), came)
     }
 
-    /// Plays a command once, by the call that waits or by the other.
+    /// Plays a command once, by the call for all commands or by the one for those that don't wait.
     fn play_once<G: Gate + Sync>(
         &mut self,
         alloc: Global,
@@ -103,7 +103,7 @@ impl<'r, R: Threads + Wait + Sync> Commands<'r, R> {
         }
     }
 
-    /// Plays a command once for each number that is set in turn, and adds numbers of one outcome together.
+    /// Plays a command once for each number that is set in turn, and adds numbers with the same result together.
     fn play_each(
         &mut self,
         alloc: Global,
@@ -142,7 +142,7 @@ impl<'r, R: Threads + Wait + Sync> Commands<'r, R> {
         }
     }
 
-    /// Plays a command whose threads meet, and adds how often each call that is waited for was made, and one was waited for in vain.
+    /// Plays a command whose threads meet, and adds how often each awaited call was made, and how often one was waited for in vain.
     fn play_meeting(
         &mut self,
         alloc: Global,
@@ -155,7 +155,7 @@ impl<'r, R: Threads + Wait + Sync> Commands<'r, R> {
         add_line(b"calls", &gate.counts(), came)
     }
 
-    /// Plays what is no setting; nothing is set after it.
+    /// Plays a word that is no setting; nothing is set after it.
     fn play_word(
         &mut self,
         alloc: Global,

@@ -1,7 +1,7 @@
-//! What is set for the next command alone.
+//! What is set for the next command only.
 //!
-//! `room`, `cut` and `flip` have a number, `fail` and `air_fail` numbers of calls, and `hears` the bytes of a datagram in hexadecimal
-//! digits; `each` has what is set, and the first and the last number to which it is set in turn (`number_ranges`); `brief` has nothing.
+//! `room`, `cut` and `flip` take a number, `fail` and `air_fail` numbers of calls, and `hears` the bytes of a datagram in hexadecimal digits. `each`
+//! takes what is set in turn, and the first and the last number (`number_ranges`). `brief` takes nothing.
 
 ghost use Rattle.std.specs.Prelude.{◌≤◌, length, All, IfOk};
 
@@ -10,11 +10,11 @@ use air_base::NoMemory;
 use case_lines::{BadCase, Parts};
 use std::alloc::Global;
 
-/// The room that a printed text, an output and a mast have where nothing else is set.
+/// The room that a printed text, an output and a mast have if nothing else is set.
 const ROOM: usize = 2_000;
 
-/// The room, the calls of the shelf and those of the mast and the ear that fail, at which byte the tape is cut, at which its highest bit is
-/// changed, which line is left out of the report, and the datagrams that wait for the ear.
+/// The room; the calls of the shelf and those of the mast and the ear that fail; the byte at which the tape is cut; the one at which its highest bit
+/// is changed; the line that is left out of the report; and the datagrams that wait for the ear.
 #[derive(Drop)]
 pub struct Settings {
     pub room: usize,
@@ -26,7 +26,7 @@ pub struct Settings {
     /// What is set in turn, once for each run of the command.
     pub each: Option<NumberRange>,
     heard: Vec<Vec<u8>>,
-    /// Whether only what no schedule changes is told.
+    /// Whether only what no schedule changes is written.
     pub brief: bool,
 }
 
@@ -46,7 +46,7 @@ impl Settings {
         }
     }
 
-    /// Sets what the word says, and tells whether it says something.
+    /// Sets what the word says, and returns whether it sets something.
     pub fn set(
         &mut self,
         alloc: Global,
@@ -72,7 +72,7 @@ impl Settings {
         Ok(true)
     }
 
-    /// Sets what is set in turn to a number.
+    /// Sets the target to a number.
     pub fn set_to(&mut self, alloc: Global, what: Target, number: u64) -> Result<(), NoMemory> {
         let next = number.saturating_add(1);
         match what {
@@ -87,12 +87,12 @@ impl Settings {
         Ok(())
     }
 
-    /// How many datagrams wait.
+    /// The number of datagrams that wait.
     pub fn heard(&self) -> u64 {
         self.heard.len() as u64
     }
 
-    /// The datagrams of one byte at least.
+    /// The datagrams that have at least a byte.
     pub fn datagrams(&self, alloc: Global) -> Result<Vec<Vec<u8>>, NoMemory>
         ensures { IfOk result (λ all. All (λ bytes. 1 ≤ length bytes.items) all.items) }
     {

@@ -1,6 +1,6 @@
-//! What a command came to, in lines: its status and the status's number, then what it printed, wrote and sent.
+//! The result of a command, in lines: its status and the status's number, then what it printed, wrote and sent.
 //!
-//! A text or an output that is long is told by its length and its sum.
+//! For a long text or output, its length and its sum are written instead.
 
 use air_base::NoMemory;
 use air_devices::{Ear, Heard, MemEar, MemMast, MemShelf};
@@ -8,10 +8,10 @@ use air_report::Status;
 use case_lines::{add_hex_words, add_line, add_lines, first_part, sum_of};
 use std::alloc::Global;
 
-/// The longest text or output that is written out; of a longer one the length and the checksum are.
+/// The greatest length of a text or an output that is written out. For a longer one the length and the checksum are written.
 const MOST_WRITTEN_OUT: usize = 4_000;
 
-/// Adds a word and then the bytes, if there are some: of many the length and the sum.
+/// Adds a word and then the bytes, if there are some; for many bytes the length and the sum.
 pub fn add_bytes(word: &[u8], bytes: &[u8], came: &mut Vec<u8>) -> Result<(), NoMemory> {
     if bytes.is_empty() {
         return Ok(());
@@ -25,7 +25,7 @@ pub fn add_bytes(word: &[u8], bytes: &[u8], came: &mut Vec<u8>) -> Result<(), No
     Ok(())
 }
 
-/// Adds the lines of a text; also that its last line has no line feed.
+/// Adds the lines of a text, and a line that says so if the last one has no line feed.
 fn add_printed(text: &[u8], came: &mut Vec<u8>) -> Result<(), NoMemory> {
     if text.len() > MOST_WRITTEN_OUT {
         return add_bytes(b"prints", text, came);
@@ -62,7 +62,7 @@ pub fn add_end(
     add_bytes(b"writes", written, came)
 }
 
-/// How many of so many datagrams the ear has taken: it hears those that are left.
+/// The number of datagrams that the ear has taken, of `datagrams`: it hears those that are left.
 fn taken(ear: &mut MemEar, datagrams: u64) -> u64 {
     let mut left = 0u64;
     for _ in 0..datagrams.saturating_add(2) {
@@ -73,7 +73,7 @@ fn taken(ear: &mut MemEar, datagrams: u64) -> u64 {
     datagrams.saturating_sub(left)
 }
 
-/// Adds what was sent, with the end, and how many of so many datagrams were taken, if there are some.
+/// Adds what was sent, with the end, and how many of `datagrams` were taken, if there are any.
 pub fn add_air(
     mast: &MemMast,
     ear: &mut MemEar,
@@ -90,7 +90,7 @@ pub fn add_air(
     Ok(())
 }
 
-/// How many lines of the text begin with this text.
+/// The number of lines of the text that begin with this text.
 pub fn count_lines(text: &[u8], leading: &[u8]) -> u64 {
     let mut count = 0u64;
     let mut rest = text;

@@ -1,4 +1,4 @@
--- What the headline tells of calls over a shelf in memory.
+-- What the headline says of calls over a shelf in memory.
 use Rattle.std.proofs.Common.{◌≡◌, ℕ, List, [], ◌∷◌, ◌++◌, Option, Some, None, All, map, take, refl, ap, sym, ◌∙◌, subst}
 use Rattle.std.specs.Prelude.{codes}
 use Rattle.csv.specs.Writing.{escaped, fields_text, is_blank}
@@ -77,7 +77,7 @@ heard_text : (d : Deck) (heard records : List (List ℕ)) (report : Report) → 
 heard_text d heard records report h same are =
     ap report_text h.decided ∙ ap (λ d. tune_output d heard) same ∙ ap (tune_output short_deck) are
 
--- Of nothing, and of two records that are no buckets.
+-- What `tune` prints of nothing, and of two records that are no buckets.
 pub record Heard : Type 0 where
   nothing : tune_output short_deck [] ≡ codes "unfinished,0,0,1,\ncounts,0,0,0,0,0,0,0\n"
   noise : tune_output short_deck ((1 ∷ []) ∷ (2 ∷ []) ∷ []) ≡ codes "unfinished,0,0,1,\ncounts,0,0,0,0,2,0,0\n"

@@ -1,4 +1,4 @@
--- The fault of an empty text is told at the first row; a text that spells a deck has none.
+-- The fault of an empty text is at the first row; a text that spells a deck has none.
 use Rattle.std.proofs.Common.{◌≡◌, ℕ, ◌≤◌, [], List, Result, Err, Some, length, refl, subst, arith}
 use Rattle.std.specs.Prelude.{IfErr}
 use Rattle.csv.specs.Reading.{records_from, strip_bom}

@@ -1,4 +1,4 @@
--- A deck of which each split is too long: `split d` isn't done, and its refusal tells the slots of the shortest split.
+-- A deck of which each split is too long: `split d` isn't done, and its refusal has the slots of the shortest split.
 use Rattle.std.proofs.Common.{◌≡◌, ◌≤◌, ◌*◌, ℕ, List, [], ◌∷◌, All, Some, None, codes, length, refl, sym, ap, ◌∙◌, subst, inl, inr, arith}
 use Rattle.std.proofs.Math.Nat.{mul-le-mul_left}
 use Rattle.std.proofs.lemmas.List.Elements.{All-cons, All-nil}
@@ -64,7 +64,7 @@ least_is slots all =
     let r = all.reached in let high = at_least r.0 r.1 in let is = r.2 in
     omega (arith, slots_walk long_deck (1 ∷ 1 ∷ 89 ∷ []) short_split, three_slots)
 
--- ---- what is told where the file spells it
+-- ---- what the refusal says if the file spells the deck
 
 -- The deck that the file spells is this one.
 is_long : (bytes : List ℕ) (before : ShelfState) (d : Deck) → before.told.file (codes "d") ≡ Some bytes → Spells bytes long_deck → SpellsDeck (codes "d") before d → d ≡ long_deck

@@ -1,4 +1,4 @@
--- Which statuses end words of no form.
+-- Which statuses end words that aren't a valid command.
 use Rattle.std.proofs.Common.{◌≡◌, refl, inl, inr}
 use Rattle.std.specs.Prelude.{◌⊎◌}
 use Rattle.air_devices.specs.Shelves.{ShelfState}

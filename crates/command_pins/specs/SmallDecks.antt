@@ -17,7 +17,8 @@ short_deck = record {
 }
 
 -- 91 items of one rate on three disks of the frequencies 63, 56 and 44: so there are 5,544 minor cycles, and the disks have 88, 99 and 126 chunks. A
--- minor cycle has three slots at least, and 1 1 89 has just these. The deck's own sizes have four, since 89 items need two slots of a chunk.
+-- minor cycle has at least three slots, and the split 1 1 89 has exactly three. The deck's own sizes have four, since 89 items need two slots of a
+-- chunk.
 abbrev pub long_deck : Deck
 long_deck = record short_deck {
   items = replicate 91 (record { value = 10; rate = 1 });

@@ -1,5 +1,5 @@
-//! These pins say what `cast_run` sends to a mast in memory, and what `ear_sessions` leaves of three datagrams that wait at an ear in memory.
-//! They tell the port, the end of what was sent, and the cause of each failure of a device.
+//! These pins say what `cast_run` sends to a mast in memory, and what `ear_sessions` leaves of three datagrams that wait at an ear in memory. They
+//! fix the port, the end of what was sent, and the cause of each failure of a device.
 
 ghost use Rattle.std.specs.Prelude.{◌≡◌, ◌≤◌, ◌+◌, ℕ, [], ◌∷◌, length, Err, None, Some, OnErr, OnOk};
 ghost use Rattle.air_devices.specs.Masts.{nothing_sent};
@@ -14,9 +14,9 @@ use std::alloc::Global;
 use std::sync::Wait;
 use std::thread::Threads;
 
-/// A cast goes to its port, and has sent the end exactly where it was done. One that tells that the mast failed tells how many buckets
-/// were sent, and the mast's count rose. It also refuses a cast without the end, an end before the buckets, and an end that fails and is
-/// told as nothing sent.
+/// A cast goes to its port, and has sent the end if and only if it was done. One that answers that the mast failed has the number of buckets sent,
+/// and the mast counted a failure. It also refuses a cast without the end, an end before the buckets, and a failed end that is answered as nothing
+/// sent.
 pub fn cast_to_another_port<R: Threads + Wait + Sync, G: Gate + Sync>(
     rt: &R,
     alloc: Global,
@@ -36,9 +36,9 @@ pub fn cast_to_another_port<R: Threads + Wait + Sync, G: Gate + Sync>(
     cast_run(rt, alloc, planned, mast, gate, 4001)
 }
 
-/// Readers that hear two datagrams on a port leave the third, and no call of the ear failed; or the ear failed, its count rose, and as
-/// many were heard as the fault tells. It also refuses one datagram more, an ear fault without a fault, a failed datagram that is counted
-/// too, and a failed ear that is taken for the end.
+/// Readers that hear two datagrams on a port leave the third, and no call of the ear failed. Or the ear failed and counted a failure, and the fault
+/// has the number of datagrams heard. It also refuses one datagram more, an ear fault without a failure, a failed datagram that is counted too, and a
+/// failed ear that is taken for the end.
 pub fn tuned_to_another_port(
     alloc: Global,
     planned: &Planned,

@@ -1,5 +1,5 @@
-//! These pins say what `air_devices` reads of short files up to a limit, when it tells that one is too large or that a read failed, and
-//! how much it leaves. They also say which failure a shelf over files keeps.
+//! These pins say what `air_devices` reads of short files up to a limit, when it answers that one is too large or that a read failed, and how much it
+//! leaves. They also say which failure a shelf over files keeps.
 
 ghost use Rattle.std.specs.Prelude.{◌≡◌, ◌≢◌, ◌≤◌, [], ◌∷◌, Err, Some, IfOk, OnErr, OnOk, option_map};
 ghost use Rattle.air_devices.specs.Memory.{told_by};
@@ -8,8 +8,7 @@ use air_devices::{Failed, FileCall, FileShelf, MemShelf, ReadFileError, Shelf, r
 use std::alloc::Global;
 use std::rt::Files;
 
-/// Of a file that is past the limit, one byte more than the limit is read, and the rest is left. It isn't read as if the limit were its
-/// end.
+/// If a file is longer than the limit, one byte more than the limit is read, and the rest is left. The file isn't read as if it ended at the limit.
 pub fn read_past_the_limit_goes_on(
     alloc: Global,
     shelf: &mut MemShelf,
@@ -22,8 +21,8 @@ pub fn read_past_the_limit_goes_on(
     read_file(alloc, shelf, name, 2)
 }
 
-/// A file of just as many bytes as the limit says is read whole, by any shelf that tells it, and not refused as too large. It also
-/// refuses that a read of fewer bytes than asked for is taken for the end.
+/// A file that has exactly as many bytes as the limit is read whole, by any shelf that tells it, and not refused as too large. It also refuses that a
+/// read of fewer bytes than asked for is taken for the end.
 pub fn file_at_the_limit_refused<S: Shelf>(
     alloc: Global,
     shelf: &mut S,
@@ -48,7 +47,7 @@ pub fn empty_file_at_the_limit_refused(
     read_file(alloc, shelf, name, 0)
 }
 
-/// A file is refused as unread only where the count of faults rose.
+/// A file is refused as unread only if a failure was counted.
 pub fn read_fault_without_a_fault(
     alloc: Global,
     shelf: &mut MemShelf,
@@ -60,7 +59,7 @@ pub fn read_fault_without_a_fault(
     read_file(alloc, shelf, name, 4)
 }
 
-/// After a print that failed the failure that is kept is of a print, whichever was kept before.
+/// After a print failed, the failure that is kept is of a print, regardless of the one kept before.
 pub fn first_failure_kept_for_the_last<R: Files + Print + Drop>(
     shelf: &mut FileShelf<R>,
     bytes: &[u8],

@@ -1,5 +1,5 @@
-//! This pin fixes the whole line that `run_drill` of `scripts` answers for one seed and one size, byte by byte.
-//! So it guards the definitions too: the deck of a drill, its script's history and tape, the ethers, and the readers' sessions.
+//! This pin fixes the whole line that `run_drill` of `scripts` answers for one seed and one size, byte by byte. So it also guards the definitions:
+//! the deck of a drill, its script's history and tape, the ethers, and the readers' sessions.
 
 ghost use Rattle.std.specs.Prelude.{◌≡◌, codes, IfOk};
 
@@ -8,8 +8,8 @@ use scripts::run_drill;
 use std::alloc::Global;
 use std::thread::Threads;
 
-/// The drill of seed 0 and size 1 has this line: 18 items, ten commits, four cycles of 28 slots and a tape of 11,200 bytes; eight queries
-/// are accepted, and 21 buckets are opened and 863 slept through.
+/// The drill of seed 0 and size 1 has this line: 18 items, ten commits, four cycles of 28 slots and a tape of 11,200 bytes. Eight queries are
+/// accepted, 21 buckets are opened, and 863 are slept through.
 #[tactic(auto, using(crate::proofs::DrillLemmas::line_of_drill))]
 pub fn line_of_another_drill<T: Threads + Sync>(
     threads: &T,

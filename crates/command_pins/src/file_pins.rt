@@ -1,5 +1,5 @@
-//! These pins say what `files` of `air_cli` gives of a named file over a shelf in memory, and why it refuses one.
-//! They tell its bytes, the limit, the row of a fault, the number of slots, and when a count of faults rose.
+//! These pins say what `files` of `air_cli` reads of a named file over a shelf in memory, and why it refuses one. They fix its bytes, the limit, the
+//! row of a fault, the number of slots, and when a failure is counted.
 #![tactic(auto, unfolding(air_cli::specs::NamedFiles::UnreadCause, air_cli::specs::NamedDecks::DeckCause, air_cli::specs::RunnableDecks::LengthCause, air_cli::specs::RunnableDecks::UnrunnableCause, item_catalog::specs::Grammar::HasFault))]
 
 ghost use Rattle.std.specs.Prelude.{◌≡◌, ◌≢◌, ◌≤◌, ◌<◌, ℕ, List, [], ◌∷◌, length, Err, Some, IfOk, OnOk};
@@ -15,8 +15,8 @@ use chunk_program::Planned;
 use item_catalog::{Deck, not_both_law};
 use std::alloc::Global;
 
-/// The bytes are those of the file of this name, and a read fault is told only where the count of faults rose (always a read fault).
-/// A file of just as many bytes as the limit says isn't too large.
+/// The bytes are those of the file of this name, and a read fault is answered only if a failure was counted (always a read fault). A file that has
+/// exactly as many bytes as the limit isn't too large.
 pub fn another_file_is_read(
     alloc: Global,
     shelf: &mut MemShelf,
@@ -53,8 +53,8 @@ pub fn limit_of_another_kind_told(
     read_deck_file(alloc, shelf, name)
 }
 
-/// A deck is given only where no read failed, and so is each refusal but that of a read: out of memory, a file that is too large, and a
-/// fault of the deck. So none of them comes of a second reading after one that failed.
+/// A deck is answered only if no read failed, and so is each refusal except for that of a read: out of memory, a file that is too large, and a fault
+/// of the deck. So none of them is the result of a second reading after one that failed.
 pub fn reads_again_after_a_read_fault(
     alloc: Global,
     shelf: &mut MemShelf,
@@ -78,7 +78,7 @@ pub fn always_a_deck_fault(alloc: Global, shelf: &mut MemShelf, name: &str) -> R
     read_deck_file(alloc, shelf, name)
 }
 
-/// The fault of an empty deck is told at row 1, after its last record.
+/// The fault of an empty deck is at row 1, after its last record.
 pub fn row_of_another_record(
     alloc: Global,
     shelf: &mut MemShelf,
@@ -90,7 +90,7 @@ pub fn row_of_another_record(
     read_deck_file(alloc, shelf, name)
 }
 
-/// A deck is refused for a program only where one has more slots than a program may have.
+/// A deck is refused for a program only if one has more slots than a program may have.
 pub fn short_program_told_as_too_long(
     alloc: Global,
     shelf: &mut MemShelf,
@@ -101,7 +101,7 @@ pub fn short_program_told_as_too_long(
     read_runnable_deck(alloc, shelf, name)
 }
 
-/// A deck whose first program is too long is refused with the slots of that one, whatever its replans have.
+/// A deck whose first program is too long is refused with the slots of that one, regardless of its replans.
 pub fn too_long_by_another_number(alloc: Global, deck: Deck) -> Result<Planned, Status>
     requires { length (program (disks_in deck 0)) ≡ 20_160 }
     ensures { (slots : ℕ) → result ≡ Err (Status.PlanTooLong slots) → slots ≡ 20_160 }

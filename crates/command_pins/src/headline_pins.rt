@@ -1,5 +1,5 @@
-//! These pins say what stands where a call of `air_main` succeeded, over devices in memory: by its clause `headline` alone.
-//! Of `run` and `cast` they tell the history and what was left of it; of `tune` and `listen` what is printed of a small deck, byte by byte.
+//! These pins say what holds if a call of `air_main` succeeded, over devices in memory, by its clause `headline` alone. For `run` and `cast` they fix
+//! the history and what was left of it; for `tune` and `listen`, byte by byte, what is printed for a small deck.
 #![tactic(auto)]
 
 ghost use Rattle.std.specs.Prelude.{◌≡◌, [], ◌∷◌, All, None, Some, codes, map, string_bytes};
@@ -23,8 +23,8 @@ use std::alloc::Global;
 use std::sync::Wait;
 use std::thread::Threads;
 
-/// `run d t` that is done has written the tape of one whole history of the deck that the file spells, and printed a report of that
-/// history, in which the reads of each verdict are consistent. It also refuses a tape of another history than the one that is printed.
+/// `run d t` that is done has written the tape of one whole history of the deck that the file spells, and printed a report of that history, in which
+/// the reads of each verdict are consistent. It also refuses a tape of another history than the printed one.
 pub fn inconsistent_reads_printed<R: Threads + Wait + Sync, G: Gate + Sync>(
     rt: &R,
     alloc: Global,
@@ -67,8 +67,8 @@ pub fn buckets_of_another_history<R: Threads + Wait + Sync, G: Gate + Sync>(
     air_main(rt, alloc, words, shelf, mast, ear, gate)
 }
 
-/// `tune d t` over an empty tape, where d spells a deck of two items and one reader who asks for both, has printed that the query is
-/// unfinished, and counts of 0.
+/// `tune d t` over an empty tape, where d spells a deck of two items and one reader who asks for both, has printed that the query is unfinished, and
+/// counts of 0.
 pub fn accepted_without_a_read<R: Threads + Wait + Sync, G: Gate + Sync>(
     rt: &R,
     alloc: Global,

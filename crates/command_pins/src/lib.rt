@@ -1,8 +1,8 @@
-//! Pins of the devices in memory and of the commands: each is one call on small values, and says the answer, or what every answer must
-//! keep. It is named for the blunder that it refuses.
+//! Pins of the devices in memory and of the commands: each is one call on small values, and says the answer, or what every answer must keep. It is
+//! named for the blunder that it refuses.
 //!
-//! A pin is proved from the contract of its call alone, so a contract that lets another answer through fails it. So does a changed
-//! definition, but not where that definition is itself the answer, as `plan_output`.
+//! A pin is proved from the contract of its call alone, so a contract that lets another answer through fails it. So does a changed definition, unless
+//! that definition is itself the answer, like `plan_output`.
 #![tactic(auto)]
 
 pub mod cast_pins;

@@ -1,6 +1,6 @@
-//! These pins say what `air_main` of `air_cli` does for a command's words, over devices in memory: what it prints, writes and reads, and
-//! that `air_quiet` does no command that waits.
-//! Where a command is done, the answer is the definition of its output; the other clauses say what each status leaves as it was.
+//! These pins say what `air_main` of `air_cli` does for a command's words, over devices in memory: what it prints, writes and reads, and that
+//! `air_quiet` runs no command that waits. If a command is done, the answer is the definition of its output; the other clauses say what each status
+//! leaves as it was.
 #![tactic(auto, unfolding(air_base::specs::Numbers::number_of, air_cli::specs::NamedDecks::DeckCause, air_cli::specs::Answers::QuietAnswers, air_cli::specs::RunnableDecks::UnrunnableCause, air_cli::specs::Plan::PlanGives, air_cli::specs::Split::SplitGives, air_cli::specs::Drill::DrillGives, air_cli::specs::Script::ScriptCause, air_cli::specs::Script::ScriptGives, air_cli::specs::Audit::AuditGives, air_cli::specs::Cast::CastCause))]
 
 ghost use Rattle.std.specs.Prelude.{◌≡◌, ◌≢◌, ◌⊎◌, ◌≤◌, ◌<◌, ℕ, List, false, [], ◌∷◌, None, Some, codes, map, string_bytes};
@@ -24,8 +24,8 @@ use std::alloc::Global;
 use std::sync::Wait;
 use std::thread::Threads;
 
-/// `plan d` that is done, or that is refused for its deck, has read the deck to its end; where it is done, no call failed. Whatever its
-/// status, it leaves mast and ear as they were. It also refuses a mast that another command than `cast` touches.
+/// `plan d` that is done, or that is refused for its deck, has read the deck to its end; if it is done, no call failed. Regardless of its status, it
+/// leaves mast and ear as they were. It also refuses a mast that another command than `cast` touches.
 pub fn deck_left_to_read<R: Threads + Wait + Sync, G: Gate + Sync>(
     rt: &R,
     alloc: Global,
@@ -89,8 +89,8 @@ pub fn given_sizes_printed_first<R: Threads + Wait + Sync, G: Gate + Sync>(
     air_main(rt, alloc, words, shelf, mast, ear, gate)
 }
 
-/// The deck's own program has 22,176 slots, and each split has 16,632 or more: `split d` is never done, and where it is refused for its splits,
-/// that number is told and printed.
+/// The deck's own program has 22,176 slots, and each split has 16,632 or more: `split d` is never done, and if it is refused for its splits, that
+/// number is answered and printed.
 pub fn own_slots_printed<R: Threads + Wait + Sync, G: Gate + Sync>(
     rt: &R,
     alloc: Global,
@@ -115,8 +115,8 @@ pub fn own_slots_printed<R: Threads + Wait + Sync, G: Gate + Sync>(
     air_main(rt, alloc, words, shelf, mast, ear, gate)
 }
 
-/// `script d t` that is done has written the tape of the deck's script, its last piece too, and one that is refused for its tape would have
-/// had more bytes than a tape may have. It also refuses that the tape's word is passed over, and that the longest tape is refused.
+/// `script d t` that is done has written the tape of the deck's script, including its last piece, and one that is refused for its tape would have had
+/// more bytes than a tape may have. It also refuses that the tape's word is ignored, and that the longest tape is refused.
 pub fn last_piece_left_out<R: Threads + Wait + Sync, G: Gate + Sync>(
     rt: &R,
     alloc: Global,
@@ -176,8 +176,8 @@ pub fn difference_told_as_none<R: Threads + Wait + Sync, G: Gate + Sync>(
     air_main(rt, alloc, words, shelf, mast, ear, gate)
 }
 
-/// `run d t` that is refused for its deck leaves its output as it was, and whatever its status it reads nothing of the file t and writes
-/// nothing to the output d. It also refuses that deck and tape change places.
+/// `run d t` that is refused for its deck leaves its output as it was. Regardless of its status it reads nothing of the file t and writes nothing to
+/// the output d. It also refuses that deck and tape change places.
 pub fn output_begun_before_the_deck_is_read<R: Threads + Wait + Sync, G: Gate + Sync>(
     rt: &R,
     alloc: Global,
@@ -198,7 +198,7 @@ pub fn output_begun_before_the_deck_is_read<R: Threads + Wait + Sync, G: Gate + 
     air_main(rt, alloc, words, shelf, mast, ear, gate)
 }
 
-/// `cast d 4000` tells that the mast failed only where its count of faults rose. Where it is refused for its deck, the mast wasn't aimed.
+/// `cast d 4000` answers that the mast failed only if it counted a failure. If it is refused for its deck, the mast wasn't aimed.
 pub fn always_an_air_fault<R: Threads + Wait + Sync, G: Gate + Sync>(
     rt: &R,
     alloc: Global,
@@ -219,7 +219,7 @@ pub fn always_an_air_fault<R: Threads + Wait + Sync, G: Gate + Sync>(
     air_main(rt, alloc, words, shelf, mast, ear, gate)
 }
 
-/// `run d t` is refused by `air_quiet` as words of no form, or memory ran out.
+/// `run d t` is refused by `air_quiet` as no valid command, or `air_quiet` is out of memory.
 pub fn waiting_command_done_quietly<T: Threads + Sync>(
     threads: &T,
     alloc: Global,

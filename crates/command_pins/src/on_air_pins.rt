@@ -1,5 +1,5 @@
-//! These pins say what `run_on_air` gives of a run: report and tape are the definitions' for one whole history.
-//! They also say when a run is refused for the length of its tape, and with which number.
+//! These pins say what `run_on_air` gives for a run: report and tape are the definitions' for one whole history. They also say when a run is refused
+//! for the length of its tape, and with which number.
 #![tactic(auto, unfolding(air_cli::specs::GivenRuns::IsRunRefusal))]
 
 ghost use Rattle.std.specs.Prelude.{◌≡◌, ◌≢◌, ◌<◌, [], ◌∷◌, length, map, Err, IfOk, IfSome};
@@ -19,9 +19,8 @@ use std::alloc::Global;
 use std::sync::Wait;
 use std::thread::Threads;
 
-/// Report and tape are those of one whole history, with a look of each of the two monitors; and a run is never refused for what was read
-/// or is to be written (always a write fault). It also refuses a report of another history, another tape or none, and a report without
-/// its looks or its verdicts.
+/// Report and tape are those of one whole history, with a look of each of the two monitors. A run is never refused for what was read or is to be
+/// written (always a write fault). It also refuses a report of another history, another tape or none, and a report without its looks or its verdicts.
 pub fn always_a_read_fault<R: Threads + Wait + Sync, G: Gate + Sync>(
     rt: &R,
     alloc: Global,
@@ -39,7 +38,7 @@ pub fn always_a_read_fault<R: Threads + Wait + Sync, G: Gate + Sync>(
     run_on_air(rt, alloc, planned, gate)
 }
 
-/// A tape is too long only where it has more bytes than a tape may have.
+/// A tape is too long only if it has more bytes than a tape may have.
 pub fn longest_run_refused(planned: &Planned) -> Option<u64>
     ensures { IfSome result (λ bytes. 1_073_741_824 < bytes) }
 {

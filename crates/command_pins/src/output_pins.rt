@@ -1,5 +1,5 @@
-//! These pins say what `outputs` of `air_cli` prints and writes of a tape of one byte and a text of two, over a shelf in memory.
-//! They also say when it tells a fault of writing, and that a refusal leaves the outputs as they were and keeps its status.
+//! These pins say what `outputs` of `air_cli` prints and writes for a tape of one byte and a text of two, over a shelf in memory. They also say when
+//! it answers a fault of writing, and that a refusal leaves the outputs as they were and keeps its status.
 #![tactic(auto, unfolding(air_cli::specs::Deliveries::Delivers))]
 
 ghost use Rattle.std.specs.Prelude.{◌≡◌, ◌≢◌, ◌≤◌, [], ◌∷◌, None, Some, codes, option_map};
@@ -11,9 +11,9 @@ use air_devices::MemShelf;
 use air_report::Status;
 use std::alloc::Global;
 
-/// What differs is told as that, and then the named output holds just the tape, and the text was printed after what was printed before.
-/// No other output changes. It also refuses that an output that was begun keeps what it held, a tape that is let go or written twice, that
-/// an output without a name is written, and that the two statuses are exchanged.
+/// If something differs, the status says so, the named output holds exactly the tape, and the text was printed after what was printed before. No
+/// other output changes. It also refuses that an output that was begun keeps what it held, a tape that is dropped or written twice, that an output is
+/// written without a name, and that the two statuses are exchanged.
 pub fn begun_output_kept(
     shelf: &mut MemShelf,
     output: Option<&str>,
@@ -30,7 +30,7 @@ pub fn begun_output_kept(
     deliver(shelf, output, given)
 }
 
-/// Where no output is named, writing fails only where a print failed.
+/// If no output is named, writing fails only if a print failed.
 pub fn always_a_write_fault(
     shelf: &mut MemShelf,
     output: Option<&str>,
@@ -52,7 +52,7 @@ pub fn output_created_on_a_refusal(alloc: Global, shelf: &mut MemShelf) -> Statu
     refuse(alloc, shelf, Status::Words)
 }
 
-/// A refusal's line that isn't printed, or not whole, leaves the status: no fault of writing is told in its place.
+/// If a refusal's line isn't printed, or not whole, its status stays: no fault of writing is answered in its place.
 pub fn unprinted_line_told_as_a_write_fault(alloc: Global, shelf: &mut MemShelf) -> Status
     ensures { result ≢ Status.WriteFault }
 {

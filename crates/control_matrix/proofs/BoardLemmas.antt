@@ -1,4 +1,4 @@
--- One more event steps the board of a list of events.
+-- One more event changes the board of a list of events by one step.
 use Rattle.std.proofs.Common.{◌≡◌, ℕ, ◌+◌, ◌<◌, true, false, cond, List, [], ◌∷◌, ◌++◌, length, get_or, map, replicate, refl, sym, ◌∙◌, ap, subst, inl, inr, arith}
 use Rattle.std.specs.List.{range_with_len}
 use Rattle.std.proofs.lemmas.Bool.{cases_Bool, cond-true, cond-false}
@@ -20,7 +20,7 @@ use Rattle.control_matrix.specs.Columns.{entry_in_columns, written_entry, next_c
 use Rattle.control_matrix.specs.BoardSteps.{next_vector, step_board}
 use Rattle.control_matrix.proofs.EntryLemmas.{greatest_of_within, reads_fit}
 
--- Boards with the same fields are the same.
+-- Boards with equal fields are equal.
 pub same_board : (a b : Board) → a.cycle ≡ b.cycle → a.values ≡ b.values → a.columns ≡ b.columns → a.vector ≡ b.vector → a ≡ b
 same_board a b p q r s =
     ap (λ (m : ℕ). let x : Board = record { cycle = m; values = a.values; columns = a.columns; vector = a.vector } in x) p
@@ -130,7 +130,7 @@ no_vector_entry i = refl
 zero_rows : (n : ℕ) (f : ℕ → ℕ) → ((i : ℕ) → f i ≡ 0) → map f (range_with_len 0 n) ≡ replicate n 0
 zero_rows n f none = sym (fill_by_all f (replicate n 0) n 0 (length-replicate n 0) (λ k l. get_or-replicate n k 0 0 l ∙ sym (none k)))
 
--- The board of no event has the given values, and zeros.
+-- The board of the empty history has the given values, and zeros.
 pub empty_board : (values : List ℕ) → board_of values [] ≡ record {
   cycle = 0;
   values = values;
@@ -148,7 +148,7 @@ empty_board values =
 
 -- ---- a board's fields after an event
 
--- A start changes the cycle alone.
+-- A start changes only the cycle.
 pub start_board : (b : Board) (e : Event) → is_start e ≡ true → length b.columns ≡ length b.values → length b.vector ≡ length b.values →
     step_board b e ≡ record { cycle = b.cycle + 1; values = b.values; columns = b.columns; vector = b.vector }
 unfolding step_board
@@ -174,14 +174,14 @@ commit_board b next e commit cycle sized values columns wide vector =
     columns
     (fill_by_all (λ i. cond (writes e i) b.cycle (get_or b.vector i 0)) next.vector n 0 wide vector)
 
--- A board that was stepped follows every list of events that the old one was of.
+-- A board after a step is the board of every list of events of which the old one was, with the event added.
 pub board_followed : (old next : Board) (e : Event) → ItemsFit (length old.values) e → BasesRead e → next ≡ step_board old e →
     (values : List ℕ) (G : List Event) → old ≡ board_of values G → next ≡ board_of values (G ++ e ∷ [])
 board_followed old next e fits bases stepped values G is =
     let sized : length old.values ≡ length values = ap (λ b. length b.values) is ∙ length-map-range_with_len (table (values_of values) G) 0 (length values) in
     stepped ∙ ap (λ b. step_board b e) is ∙ board_push values G e (subst (λ n. ItemsFit n e) sized fits) bases
 
--- ---- a board's parts, where it is that of a list of events
+-- ---- a board's parts, if it is that of a list of events
 
 pub value_of : (b : Board) (values : List ℕ) (G : List Event) (i : ℕ) → b ≡ board_of values G → i < length b.values → get_or b.values i 0 ≡ table (values_of values) G i
 value_of b values G i is l =

@@ -57,7 +57,7 @@ spare_is n cycle old spare e fits sized merged = fill_by_all (written_entry cycl
     (λ i l. merged i l ∙ ap (λ m. cond (writes e i) cycle m)
     (greatest_of_within n (λ r. get_or (column_in n old r) i 0) (λ r. entry_in_columns (columns_in n old) r i) (reads e) (reads_fit n e fits) (λ r lr. ap (λ xs. get_or xs i 0) (sym (column_at n old r lr)))))
 
--- The written column put at each item that is written gives the next columns.
+-- The next columns are the old ones with the written column at each item that is written.
 pub columns_stepped : (n cycle : ℕ) (old new spare : List ℕ) (e : Event) → ItemsFit n e → length spare ≡ n →
     ((i : ℕ) → i < n → get_or spare i 0 ≡ cond (writes e i) cycle (greatest_of (λ r. get_or (column_in n old r) i 0) (reads e))) →
     ((j : ℕ) → j < n → column_in n new j ≡ cond (writes e j) spare (column_in n old j)) →
@@ -75,7 +75,7 @@ columns_whole n m k cycle old was new now e mn kn before after stepped =
     ap (λ x. columns_in x now) kn ∙ ap (columns_in n) after ∙ sym (ap (λ x. columns_in x new) mn) ∙ stepped
     ∙ ap (λ x. next_columns x cycle (columns_in x was) e) mn ∙ ap (λ xs. next_columns n cycle (columns_in n xs) e) before
 
--- A row stamped by the marks of what an event writes has the cycle there, and elsewhere what it had.
+-- A list stamped by the marks of what an event writes has the cycle at those items, and elsewhere its old entries.
 pub marked_stamp : (e : Event) (cycle : ℕ) (marks xs : List ℕ) (i : ℕ) → length marks ≡ length xs → i < length xs → get_or marks i 0 ≡ cond (writes e i) 1 0 →
     get_or (stamp_each cycle marks xs) i 0 ≡ cond (writes e i) cycle (get_or xs i 0)
 marked_stamp e cycle marks xs i same l is = stamp_each_at cycle marks xs i same l ∙ by (writes e i) is

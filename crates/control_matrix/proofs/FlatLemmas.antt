@@ -26,7 +26,7 @@ column_len n entries j square l =
     let left = length-drop (j * n) entries in
     length-take-le n (drop (j * n) entries) (omega arith)
 
--- A column put in the place of an item's changes that one alone.
+-- Overwriting the column of an item changes only that column.
 pub column_put : (m n : ℕ) (entries column : List ℕ) (k j : ℕ) → k ≡ n → length entries ≡ n * n → length column ≡ n → m < n → j < n →
     column_in n (put_mid (m * n) k entries column) j ≡ cond (m == j) column (column_in n entries j)
 column_put m n entries column k j kn square sized lm lj =

@@ -1,4 +1,4 @@
--- Small boards, computed: what the step says of them.
+-- Small boards, computed: what the step gives for them.
 use Rattle.std.specs.Prelude.{◌≡◌, [], ◌∷◌, refl}
 use Rattle.air_history.specs.declared.histories.Event.TheVariants.{Start}
 use Rattle.air_history.specs.Places.{greatest_of}

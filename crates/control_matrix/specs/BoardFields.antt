@@ -14,7 +14,8 @@ board_in b = record {
   vector = b.vector.items;
 }
 
--- There are 1 to 1,024 values, as many columns of as many entries, as many vector entries, and room for a column and marks.
+-- There are 1 to 1,024 values, as many columns with as many entries each, as many vector entries, and room for a column and for
+-- marks.
 pub record IsBoard (b : Inside) : Type 0 where
   pub some : 1 ≤ length b.values.items
   pub few : length b.values.items ≤ MOST_VALUES

@@ -1,4 +1,4 @@
--- Columns that stand one after another in one flat list, and how a commit changes them.
+-- Columns one after another in one flat list, and how a commit changes them.
 use Rattle.std.specs.Prelude.{ℕ, ◌*◌, cond, List, [], get_or, map, take, drop}
 use Rattle.std.specs.List.{range_with_len}
 use Rattle.air_history.specs.declared.histories.Event.{Event}
@@ -13,16 +13,16 @@ column_in n entries j = take n (drop (j * n) entries)
 abbrev pub columns_in : ℕ → List ℕ → List (List ℕ)
 columns_in n entries = map (column_in n entries) (range_with_len 0 n)
 
--- Entry i of the column of item j, and 0 where there is none.
+-- Entry i of the column of item j; 0 if there is none.
 abbrev pub entry_in_columns : List (List ℕ) → ℕ → ℕ → ℕ
 entry_in_columns columns j i = get_or (get_or columns j []) i 0
 
--- Entry i of the column that an event in a cycle writes: the cycle where it writes item i, else the greatest
--- entry of i in a column that it reads.
+-- Entry i of the column that an event in a cycle writes: the cycle if the event writes item i, otherwise the greatest entry of
+-- i in a column that it reads.
 abbrev pub written_entry : ℕ → List (List ℕ) → Event → ℕ → ℕ
 written_entry cycle columns e i = cond (writes e i) cycle (greatest_of (λ r. entry_in_columns columns r i) (reads e))
 
--- The column of item j after the event: the one that it writes where it writes j, else what it was.
+-- The column of item j after the event: the one that the event writes if it writes j, otherwise the old one.
 abbrev pub next_column : ℕ → ℕ → List (List ℕ) → Event → ℕ → List ℕ
 next_column n cycle columns e j = cond (writes e j) (map (written_entry cycle columns e) (range_with_len 0 n)) (get_or columns j [])
 

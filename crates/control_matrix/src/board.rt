@@ -1,8 +1,8 @@
-//! The board: what the server airs, kept beside a history that it never sees.
+//! The board: what the server airs, kept along with a history that the board never sees.
 //!
-//! The columns stand in one flat list, n entries each; values and vector beside it. `spare` is room for the column
-//! that a commit writes and `marks` for the items that it writes, so that a step takes no memory. Contracts see a board as
-//! the definition's record.
+//! The columns are in one flat list, n entries each; values and vector are lists of their own. `spare` is room for the column
+//! that a commit writes and `marks` for the items that it writes, so that a step takes no memory. Contracts see a board as the
+//! definition's record.
 
 ghost use Rattle.std.specs.Prelude.{◌≡◌, ℕ, ◌+◌, ◌<◌, ◌≤◌, ◌^◌, List, [], ◌∷◌, ◌++◌, length, get_or, replicate, IfOk};
 ghost use Rattle.air_base.specs.declared.limits.TheConstants.{MOST_VALUES};
@@ -68,7 +68,7 @@ impl Board {
         })
     }
 
-    /// Changes the board to that of the history with the event added, whatever the history was. It takes no memory,
+    /// Changes the board to that of the history with the event added, for any history whose board this is. It takes no memory,
     /// and time for n entries at each item that the event reads or writes. `Event::fits` is the test for `fits`.
     pub fn apply(&mut self, event: &Event)
         requires fits { ItemsFit (length self.old.values) event.now }
@@ -103,7 +103,7 @@ impl Board {
         self.values.len() as u16
     }
 
-    /// The number of cycle starts; for each list of events whose board this is, that list's.
+    /// The number of cycle starts, for each list of events whose board this is.
     pub fn cycle(&self) -> u32
         ensures found { result ≡ self.now.cycle }
         ensures after { (values : List ℕ) (G : List Event) → self.now ≡ board_of values G → result ≡ starts G }
@@ -111,7 +111,7 @@ impl Board {
         self.cycle
     }
 
-    /// The value of an item; for each list of events whose board this is, the value after that list.
+    /// The value of an item after each list of events whose board this is.
     pub fn value(&self, item: u16) -> u64
         requires { item < length self.now.values }
         ensures found { result ≡ get_or self.now.values item 0 }
@@ -121,8 +121,7 @@ impl Board {
         self.values[item as usize]
     }
 
-    /// The control column of an item, one entry for each item; for each list of events whose board this is, the
-    /// item's control column after that list.
+    /// The control column of an item, one entry for each item, after each list of events whose board this is.
     pub fn column(&self, item: u16) -> &[u32]
         requires { item < length self.now.values }
         ensures found { result.now ≡ get_or self.now.columns item [] }
@@ -133,7 +132,7 @@ impl Board {
         column_of(&self.columns, self.values.len(), item)
     }
 
-    /// The write vector, one entry for each item; for each list of events whose board this is, that list's.
+    /// The write vector, one entry for each item, after each list of events whose board this is.
     pub fn vector(&self) -> &[u32]
         ensures found { result.now ≡ self.now.vector }
         ensures after { (values : List ℕ) (G : List Event) → self.now ≡ board_of values G →

@@ -22,7 +22,7 @@ pub fn column_of(entries: &[u32], n: usize, item: u16) -> &[u32]
     &entries[from..from + n]
 }
 
-/// Puts a column in the place of an item's.
+/// Puts this column in place of the item's.
 fn put_column(entries: &mut [u32], item: u16, column: &[u32])
     requires square { length entries.old ≡ length column.now * length column.now }
     requires within { item < length column.now }
@@ -34,7 +34,7 @@ fn put_column(entries: &mut [u32], item: u16, column: &[u32])
     entries[from..from + n].copy_from_slice(column);
 }
 
-/// Puts into each place the greatest entry that a read column has there.
+/// Puts at each place the greatest entry that a column read by the commit has there.
 fn merge(entries: &[u32], reads: &[u16], out: &mut [u32])
     requires square { length entries.now ≡ length out.old * length out.old }
     requires within { All (λ r. r < length out.old) reads.now }
@@ -47,7 +47,7 @@ fn merge(entries: &[u32], reads: &[u16], out: &mut [u32])
     }
 }
 
-/// Puts the column in the place of that of each item that is written.
+/// Puts the column in place of that of each item that is written.
 fn store(entries: &mut [u32], writes: &[Write], column: &[u32])
     requires square { length entries.old ≡ length column.now * length column.now }
     requires within { All (λ w. w.item < length column.now) writes.now }
@@ -60,7 +60,7 @@ fn store(entries: &mut [u32], writes: &[Write], column: &[u32])
     }
 }
 
-/// Steps the columns by a commit in the given cycle; `spare` is room for one column, and `marks` has the items that the
+/// Changes the columns by a commit in the given cycle. `spare` is room for one column, and `marks` has the items that the
 /// commit writes.
 pub fn step_columns(
     entries: &mut [u32],

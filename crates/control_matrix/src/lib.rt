@@ -1,7 +1,7 @@
-//! The board that the server keeps beside a history: the values, the control columns and the write vector.
+//! The board that the server keeps along with a history: the values, the control columns and the write vector.
 //!
-//! `Board::apply` steps it by one event, in place and without the history. It gives exactly `step_board`, and the
-//! laws tie that to the board of a list of events. Senders air from it, and frames carry it.
+//! `Board::apply` changes it by one event, in place and without the history. It gives what `step_board` says, and the laws
+//! relate that to the board of a list of events. Senders air from it, and frames carry it.
 #![tactic(auto)]
 
 pub mod board;

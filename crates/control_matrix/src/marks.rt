@@ -1,6 +1,6 @@
-//! The marks of a commit: a row with 1 at each item that it writes, and 0 at the others.
+//! The marks of a commit: a list with 1 at each item that it writes, and 0 at the others.
 //!
-//! By one row of marks the written column and the write vector are stamped with the commit's cycle.
+//! One list of marks is used to stamp both the written column and the write vector with the commit's cycle.
 
 ghost use Rattle.std.specs.Prelude.{◌≡◌, cond, length, EachIndex, slice_index};
 ghost use Rattle.air_history.specs.Histories.{writes, ItemsFit};

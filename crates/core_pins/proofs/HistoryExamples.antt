@@ -34,7 +34,7 @@ unstarted = commit 0 [] (set_to 0 11) ∷ commit 1 (0 ∷ []) (add_to 1 0 1) ∷
 abbrev both_written : List Event
 both_written = Start ∷ of_two ∷ Start ∷ []
 
--- Item 2 is written in cycle 2 alone.
+-- Only item 2 is written, in cycle 2.
 abbrev two_later : List Event
 two_later = Start ∷ Start ∷ commit 0 [] (set_to 2 5) ∷ Start ∷ []
 
@@ -47,20 +47,20 @@ pub record Ends : Type 0 where
   own_ancestor : descends unstarted 0 0 ≡ true
   not_of_the_later : descends unstarted 0 1 ≡ false
   of_the_first : descends unstarted 1 0 ≡ true
-  -- the last event of all runs alone for what reads its write
+  -- the last event of all runs alone for a read of its write
   last_runs : last_alone unstarted (at 1 1 ∷ []) 1 ≡ Some 1
   all_run : alone unstarted (at 1 1 ∷ []) ≡ unstarted
   -- it is enough that the first of two reads descends from an event
   first_alone : runs_alone unstarted (at 1 1 ∷ at 2 1 ∷ []) 1 ≡ true
-  -- of no read the first cycle is 0, and an item past the catalog has the value 0
+  -- with no read the first cycle is 0, and an item after the catalog's last has the value 0
   of_no_read : first_cycle [] ≡ 0
   past_the_catalog : values_of (10 ∷ []) 1 ≡ 0
-  -- a start has no base that isn't read
+  -- a start has no base, so all its bases are read
   start_reads_bases : BasesRead Start
-  -- the current cycle is that of the last read where no earlier one is stale there, and 0 of no read
+  -- the current cycle is that of the last read if no earlier one is stale there, and 0 without a read
   last_is_current : current_cycle both_written (at 2 1 ∷ at 1 2 ∷ []) ≡ 2
   none_is_current : current_cycle both_written [] ≡ 0
-  -- the column has an entry for each item, in whatever cycle
+  -- the column has an entry for each item, in any cycle
   three_entries : policy_entries FMatrix 3 both_written 2 1 ≡ 1 ∷ 1 ∷ 0 ∷ []
   entries_of_cycle_one : policy_entries FMatrix 3 both_written 1 1 ≡ 0 ∷ 0 ∷ 0 ∷ []
 
@@ -91,7 +91,7 @@ pub record OfTheNewest : Type 0 where
   -- a read of the newest held cycle clashes with the held one that is stale there
   stale_held : clash_by_history Datacycle both_written (at 0 1 ∷ at 1 2 ∷ []) (at 2 2) ≡ Some (record { item = 0; cycle = 1 })
   stale_heard : clash_by_entries Datacycle (heard_at Datacycle both_written (at 0 1) ∷ heard_at Datacycle both_written (at 1 2) ∷ []) (heard_at Datacycle both_written (at 2 2)) ≡ Some (record { item = 0; cycle = 1 })
-  -- the newest held cycle is that of the first held read here
+  -- the newest held cycle is here that of the first held read
   first_is_newest : clash_by_history Datacycle two_later (at 1 3 ∷ at 0 1 ∷ []) (at 2 2) ≡ Some (record { item = 1; cycle = 3 })
   first_heard_is_newest : clash_by_entries Datacycle (heard_at Datacycle two_later (at 1 3) ∷ heard_at Datacycle two_later (at 0 1) ∷ []) (heard_at Datacycle two_later (at 2 2)) ≡ Some (record { item = 1; cycle = 3 })
 

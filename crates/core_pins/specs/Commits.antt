@@ -9,7 +9,7 @@ use Rattle.air_history.specs.UpdateLists.{UpdateLists}
 abbrev pub set_to : ℕ → ℕ → Write
 set_to i v = record { item = i; base = None; minus = false; amount = v }
 
--- A write of a base and an amount more.
+-- A write of a base plus an amount.
 abbrev pub add_to : ℕ → ℕ → ℕ → Write
 add_to i b v = record { item = i; base = Some b; minus = false; amount = v }
 
@@ -17,6 +17,6 @@ add_to i b v = record { item = i; base = Some b; minus = false; amount = v }
 abbrev pub update_of : List ℕ → Write → UpdateLists
 update_of reads write = record { reads = reads; writes = write ∷ [] }
 
--- A commit of it.
+-- A commit of an update with one write.
 abbrev pub commit : ℕ → List ℕ → Write → Event
 commit seq reads write = Commit 0 seq (update_of reads write)

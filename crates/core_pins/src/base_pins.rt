@@ -8,7 +8,7 @@ ghost use Rattle.air_base.specs.declared.number_lists.ListFault.TheVariants.{Bad
 use air_base::{ListFault, NoMemory, ReadOf, Reads, Values, read_list, read_u64, write_u64};
 use std::alloc::Global;
 
-/// A value goes to its own place.
+/// A value is put at its own place.
 pub fn another_value_replaced(list: &mut Values)
     requires { list.old ≡ 10 ∷ 20 ∷ [] }
     ensures { list.new ≡ 10 ∷ 5 ∷ [] }
@@ -24,7 +24,7 @@ pub fn double_space_taken(alloc: Global, text: &[u8]) -> Result<Vec<u64>, ListFa
     read_list(alloc, text)
 }
 
-/// After out of memory nothing is written, else all digits are. It also refuses that the last digit is left out.
+/// After out of memory nothing is written; otherwise all digits are. It also refuses that the last digit is left out.
 pub fn half_written_after_no_memory(out: &mut Vec<u8>) -> Result<(), NoMemory>
     requires { out.old.items ≡ codes "x" }
     ensures { MatchResult result (λ _. out.new.items ≡ codes "x120") (λ _. out.new.items ≡ codes "x") }
@@ -56,7 +56,7 @@ pub fn plus_sign_taken(text: &[u8]) -> Option<u64>
     read_u64(text)
 }
 
-/// A number of more than 64 bits is none.
+/// A text whose value needs more than 64 bits spells no number.
 pub fn too_great_number_is_the_greatest(text: &[u8]) -> Option<u64>
     requires { text.now ≡ codes "18446744073709551620" }
     ensures { result ≡ None }

@@ -1,4 +1,4 @@
-//! These pins of `control_matrix` say what a board of two items is after an event, and what it answers.
+//! These pins of `control_matrix` say what a board of two items is after an event, and what its calls give.
 //!
 //! The board is in cycle 2; its item 1 was written in cycle 1, from item 0.
 #![tactic(auto, unfolding(control_matrix::specs::BoardSteps::step_board, air_history::specs::Histories::is_start, air_history::specs::Histories::reads, air_history::specs::Histories::writes, air_history::specs::Histories::ItemsFit, air_history::specs::Places::greatest_of, air_history::specs::Tables::value_on_base, air_history::specs::Tables::write_of, air_history::specs::Tables::value_after, air_history::specs::Tables::table))]
@@ -13,8 +13,8 @@ use air_history::Event;
 use control_matrix::Board;
 use std::alloc::Global;
 
-/// A commit that reads what it writes reads the column of before it, which is merged whole. It also refuses direct writers only: that
-/// of this column the entry of the item that is read is taken alone.
+/// A commit that reads what it writes reads the column as it was before, and the whole of it is merged. It also refuses that of
+/// this column only the entry of the item that is read is taken.
 pub fn column_already_changed(board: &mut Board, event: &Event)
     requires board { board.old ≡ pair_board }
     requires event { event.now ≡ commit 0 (1 ∷ []) (add_to 1 1 1) }
@@ -39,8 +39,8 @@ pub fn first_column_for_each_item(board: &Board) -> &[u32]
     board.column(1)
 }
 
-/// A blind write leaves nothing of the old column but its own cycle. The vector has the cycle at the item that is written, and at
-/// that alone. It also refuses that the vector is forgotten, and that marks of the commit before are kept.
+/// A blind write leaves nothing of the old column except its own cycle. The vector has the cycle only at the item that is
+/// written. It also refuses that the vector is forgotten, and that marks of the commit before are kept.
 pub fn old_column_survives(board: &mut Board, event: &Event)
     requires board { board.old ≡ pair_board }
     requires event { event.now ≡ commit 0 [] (set_to 1 5) }

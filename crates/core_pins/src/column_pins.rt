@@ -1,4 +1,4 @@
-//! These pins of `column_check` say whether a read goes together with two held ones under F-Matrix.
+//! These pins of `column_check` say whether a read is consistent with two held ones under F-Matrix.
 //!
 //! A clash names a held read by its item and cycle.
 #![tactic(auto, unfolding(air_history::specs::Clashes::least, air_history::specs::Clashes::clash_by_entries))]
@@ -9,7 +9,7 @@ ghost use Rattle.core_pins.specs.SmallReads.{read_with_entries, two};
 use air_base::Clash;
 use column_check::Held;
 
-/// A read clashes with no held one where neither column has the other's item at its cycle or later.
+/// A read clashes with no held one if neither column has the other's item at the other's cycle or later.
 pub fn always_aborts(held: &Held, column: &[u32]) -> Option<Clash>
     requires held { held.now ≡ two (read_with_entries 0 1 0 0 0) (read_with_entries 1 4 0 0 2) }
     requires column { column.now ≡ 0 ∷ 2 ∷ 0 ∷ [] }
@@ -18,8 +18,8 @@ pub fn always_aborts(held: &Held, column: &[u32]) -> Option<Clash>
     held.clashes(2, 3, column)
 }
 
-/// The clash is with the held read whose cycle the new column reaches, whichever was held first. It also refuses that the held
-/// columns alone decide.
+/// The clash is with the held read whose cycle the new column reaches, in any order of holding. It also refuses that only the
+/// held columns decide.
 pub fn first_held_for_the_clashing(held: &Held, column: &[u32]) -> Option<Clash>
     requires held { held.now ≡ two (read_with_entries 0 1 0 0 0) (read_with_entries 1 2 0 0 0) }
     requires column { column.now ≡ 0 ∷ 3 ∷ 0 ∷ [] }
@@ -28,7 +28,7 @@ pub fn first_held_for_the_clashing(held: &Held, column: &[u32]) -> Option<Clash>
     held.clashes(2, 4, column)
 }
 
-/// A held column that has the new item at the new cycle is enough too.
+/// A held column that has the new item at the new cycle is a clash too.
 pub fn one_way_check(held: &Held, column: &[u32]) -> Option<Clash>
     requires held { held.now ≡ two (read_with_entries 0 1 0 0 0) (read_with_entries 1 5 0 0 3) }
     requires column { column.now ≡ 0 ∷ 0 ∷ 0 ∷ [] }

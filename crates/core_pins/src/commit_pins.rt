@@ -1,4 +1,4 @@
-//! These pins of `update_commit` say what a core of one updater and one item answers.
+//! These pins of `update_commit` say what a core of one updater and one item gives.
 //!
 //! Its values, its receipts and the copies of its events are those of the history.
 #![tactic(auto, unfolding(air_history::specs::Histories::is_start, air_history::specs::Histories::reads, air_history::specs::Histories::writes, air_history::specs::Histories::writes_of, air_history::specs::Histories::starts, air_history::specs::Histories::cycle_at, air_history::specs::Histories::since_start, air_history::specs::Histories::EventFits, air_history::specs::Tables::value_on_base, air_history::specs::Tables::write_of, air_history::specs::Tables::value_after, air_history::specs::Tables::table))]
@@ -13,8 +13,8 @@ use air_history::{Event, Update};
 use std::alloc::Global;
 use update_commit::{Core, Receipt};
 
-/// A copy of a commit has its number, and the first event after the start is copied too. It also refuses that the copies begin one
-/// event too far.
+/// A copy of a commit has the commit's number, and the first event after the start is copied too. It also refuses that the
+/// copies begin one event too late.
 pub fn copies_of_commits_lose_their_number(
     alloc: Global,
     core: &Core,
@@ -35,8 +35,8 @@ pub fn no_room_made(core: &mut Core) -> Result<(), NoMemory>
     core.reserve(3)
 }
 
-/// A receipt tells the values from before the commit as read, and those of one run as written; its number is that of the events before
-/// it. It also refuses that the update is run twice, and that the number counts its own commit.
+/// A receipt has as read the values from before the commit, and as written those of one run; its number is the number of events
+/// before it. It also refuses that the update is run twice, and that the number counts the commit itself.
 pub fn read_values_from_after_the_commit(core: &mut Core, update: Update, into: &mut Receipt)
     requires core { core.old ≡ core_of [] }
     requires update { update ≡ update_of (0 ∷ []) (add_to 0 0 1) }
@@ -46,7 +46,7 @@ pub fn read_values_from_after_the_commit(core: &mut Core, update: Update, into: 
     core.commit(0, update, into);
 }
 
-/// A value is that after all events.
+/// A value is the one after all events.
 pub fn value_from_before_all_events(core: &Core) -> u64
     requires { core.now ≡ core_of (commit 0 [] (set_to 0 5) ∷ []) }
     ensures { result ≡ 5 }

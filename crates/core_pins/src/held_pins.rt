@@ -18,7 +18,7 @@ pub fn entry_for_the_held_cycle(held: &HeldEntries, entries: &[u32]) -> Option<C
     held.least_reached(entries)
 }
 
-/// Reads whose cycles are 254 apart lie close enough. It refuses that 254 are too many.
+/// Reads whose cycles are 254 apart aren't too far apart. It refuses that 254 are too many.
 pub fn apart_at_254(held: &HeldEntries) -> bool
     requires { held.now ≡ two (read_with_entries 0 1 0 0 0) (read_with_entries 1 3 0 0 0) }
     ensures { result ≡ false }
@@ -26,8 +26,8 @@ pub fn apart_at_254(held: &HeldEntries) -> bool
     held.spans(255)
 }
 
-/// Reads whose cycles are 255 apart lie too far apart. It refuses that only more than 255 are too many, that the new read is left
-/// out, and that the last held cycle alone is asked.
+/// Reads whose cycles are 255 apart are too far apart. It refuses that only more than 255 are too many, that the new read is
+/// left out, and that only the last held cycle is tested.
 pub fn apart_above_255(held: &HeldEntries) -> bool
     requires { held.now ≡ two (read_with_entries 0 300 0 0 0) (read_with_entries 1 299 0 0 0) }
     ensures { result ≡ true }
@@ -35,7 +35,7 @@ pub fn apart_above_255(held: &HeldEntries) -> bool
     held.spans(45)
 }
 
-/// The held reads count among themselves too. It refuses that each of them is asked of the new one alone.
+/// The held reads are compared with each other too. It refuses that each of them is compared only with the new one.
 pub fn apart_from_the_new_alone(held: &HeldEntries) -> bool
     requires { held.now ≡ two (read_with_entries 0 1 0 0 0) (read_with_entries 1 256 0 0 0) }
     ensures { result ≡ true }
@@ -51,7 +51,7 @@ pub fn first_cycle_for_last(held: &HeldEntries) -> Option<u32>
     held.last()
 }
 
-/// Of two clashes that of lesser item is named, also where it comes later.
+/// Of two clashes, the one with the lesser item is named, also if it comes later.
 pub fn first_held_for_least(best: Option<Clash>, clash: Clash) -> Clash
     requires best { best ≡ Some (record { item = 5; cycle = 1 }) }
     requires clash { clash ≡ record { item = 2; cycle = 3 } }

@@ -15,7 +15,7 @@ use air_history::{
 };
 use std::alloc::Global;
 
-/// What a write puts is made of the values before the event: two items change places.
+/// What a write gives is computed from the values before the event: two items exchange their values.
 pub fn base_read_after_write(event: &Event, values: &mut [u64])
     requires event { event.now ≡ exchange }
     requires values { values.old ≡ 7 ∷ 8 ∷ [] }
@@ -25,7 +25,7 @@ pub fn base_read_after_write(event: &Event, values: &mut [u64])
     run_event(event, values);
 }
 
-/// A commit descends from the writers of what its writers read, too.
+/// A commit also descends from the writers of what its writers read.
 pub fn direct_writers_only(alloc: Global, history: &History) -> Result<Vec<bool>, NoMemory>
     requires { history.now ≡ chain }
     ensures { IfOk result (λ marks. marks.items ≡ false ∷ true ∷ true ∷ true ∷ false ∷ []) }
@@ -33,7 +33,7 @@ pub fn direct_writers_only(alloc: Global, history: &History) -> Result<Vec<bool>
     descends(alloc, history, 3)
 }
 
-/// An item of the number of items doesn't fit.
+/// An item equal to the number of items doesn't fit.
 pub fn fits_at_the_limit(update: &Update) -> bool
     requires { update.now ≡ update_of (2 ∷ []) (set_to 0 1) }
     ensures { result ≡ false }
@@ -41,7 +41,7 @@ pub fn fits_at_the_limit(update: &Update) -> bool
     update.fits(2)
 }
 
-/// The last of the events that are to run is run too.
+/// The last of the events that are to be run is run too.
 pub fn last_event_not_run(history: &History, values: &mut [u64])
     requires history { history.now ≡ chain }
     requires values { values.old ≡ 10 ∷ 20 ∷ 30 ∷ [] }
@@ -50,7 +50,7 @@ pub fn last_event_not_run(history: &History, values: &mut [u64])
     table_of(history, 4, values);
 }
 
-/// A base that isn't read is told as that.
+/// A base that isn't read is reported as such.
 pub fn limit_for_a_base(
     alloc: Global,
     reads: &[u16],

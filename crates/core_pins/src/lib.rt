@@ -1,7 +1,7 @@
-//! These are worked examples of the libraries from texts of numbers up to the core, on small values.
-//! Each function is one call: its `requires` fixes what is handed in, and its `ensures` is the answer, or what every answer must
-//! keep, proved from the called function's contract alone. So it fails where a contract lets another answer through, or where a
-//! definition changes. A function is named for the blunder that it refuses, and its comment says what else it refuses.
+//! These are worked examples of the libraries from texts of numbers up to the core, on small values. Each function is one call.
+//! Its `requires` fixes the arguments, and its `ensures` is the answer, or what holds of every answer; it is proved from the
+//! called function's contract only. So it fails if a contract lets another answer through, or if a definition changes. A
+//! function is named for the mistake that it refuses, and its comment says what else it refuses.
 #![tactic(auto)]
 
 pub mod base_pins;

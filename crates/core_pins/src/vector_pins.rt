@@ -1,4 +1,4 @@
-//! These pins of `vector_policies` say whether a read goes together with two held ones under Datacycle and R-Matrix.
+//! These pins of `vector_policies` say whether a read may join two held ones under Datacycle and R-Matrix.
 //!
 //! A clash names a held read by its item and cycle.
 #![tactic(auto, unfolding(air_history::specs::Clashes::least, air_history::specs::Clashes::clash_by_entries))]
@@ -14,7 +14,7 @@ ghost use Rattle.core_pins.specs.SmallReads.{read_with_entries, two};
 use air_base::Clash;
 use vector_policies::{DataHeld, RHeld};
 
-/// Datacycle names a read of the newest held cycle where its vector has the new item at the new cycle. It also refuses that the
+/// Datacycle names a read of the newest held cycle if its vector has the new item at the new cycle. It also refuses that the
 /// oldest held cycle decides.
 pub fn another_cycle_for_the_newest(held: &DataHeld, vector: &[u32]) -> Option<Clash>
     requires held { held.now ≡ two (read_with_entries 0 2 0 0 0) (read_with_entries 1 4 0 0 3) }
@@ -24,7 +24,7 @@ pub fn another_cycle_for_the_newest(held: &DataHeld, vector: &[u32]) -> Option<C
     held.clashes(2, 3, vector)
 }
 
-/// R-Matrix names the held read that is stale, whichever was held first, where the new item was written since the first held cycle.
+/// If the new item was written since the first held cycle, R-Matrix names the held read that is stale, in any order of holding.
 /// It also refuses that the last held cycle decides.
 pub fn first_named_for_the_stale(held: &RHeld, vector: &[u32]) -> Option<Clash>
     requires held { held.now ≡ two (read_with_entries 0 2 0 0 0) (read_with_entries 1 3 0 0 2) }
@@ -34,8 +34,8 @@ pub fn first_named_for_the_stale(held: &RHeld, vector: &[u32]) -> Option<Clash>
     held.clashes(2, 5, vector)
 }
 
-/// A write that is 255 cycles old may be heard as none: by every history that has it so the answer stays its own. It refuses a cap
-/// that is one cycle late.
+/// A write that is 255 cycles old may be heard as none: for every history that has the write, the answer stays that history's.
+/// It refuses a cap that is one cycle late.
 pub fn capped_one_cycle_late(held: &DataHeld, vector: &[u32]) -> Option<Clash>
     requires held { held.now ≡ record { n = 3; reads = read_with_entries 0 2 0 1 0 ∷ [] } }
     requires vector { vector.now ≡ 0 ∷ 0 ∷ 2 ∷ [] }
@@ -63,7 +63,7 @@ pub fn second_condition_forgotten(held: &RHeld, vector: &[u32]) -> Option<Clash>
     held.clashes(2, 5, vector)
 }
 
-/// By every history that aired these vectors, a read is taken exactly where all reads stay current.
+/// For every history that aired these vectors, a read is taken if and only if all reads stay current.
 pub fn taken_though_a_read_is_stale(held: &DataHeld, vector: &[u32]) -> Option<Clash>
     requires held { held.now ≡ record { n = 3; reads = read_with_entries 0 2 0 0 0 ∷ [] } }
     requires vector { vector.now ≡ 3 ∷ 0 ∷ 0 ∷ [] }

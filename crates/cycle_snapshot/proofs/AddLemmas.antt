@@ -13,7 +13,7 @@ use Rattle.cycle_snapshot.proofs.PrefixLemmas.{prefix_whole}
 abbrev pub nothing_shown : List Batch → List Batch
 nothing_shown log = []
 
--- What the book asks of a move: nothing.
+-- What the book requires of a move: nothing.
 abbrev pub AnyMove : List Batch → List Batch → ℕ → Type 0
 AnyMove xs ys n = Unit {0}
 
@@ -29,7 +29,7 @@ adds_goes log v e old len pre false is =
     let n : either (length log == old) (old + 1) (length log) ≡ length (log ++ []) = rw is (ap length (sym all)) in
     (keeps, [], None, tt, ap (λ (k : ℕ). (k, true) ∷ (0, true) ∷ []) n, inl (refl, refl), rw is tt)
 
--- Whatever the book has, the exchange adds the batch to all that was seen, or finds that the list is longer.
+-- For any book, the exchange adds the batch to all that was seen, or finds that the list is longer.
 pub adds_moves : (v : List Batch) (e : Batch) (old : ℕ) → length v ≡ old
     → Moves IsCounted nothing_shown AnyMove 0 (v, (no_nib, None)) (λ n. either (n == old) (old + 1) n) (AddsToBook (step 0 old (old + 1) e) (v, (no_nib, None)))
 adds_moves v e old len cs log kept pre away =

@@ -43,7 +43,7 @@ starts_events n (b ∷ bs) all =
     let rest = starts_events n bs (All-tail (IsBatch n) b bs all) in
     omega arith
 
--- The events of one batch more.
+-- The events of batches and one more batch.
 pub events_more : (bs : List (List Event)) (b : List Event) → batch_events (bs ++ b ∷ []) ≡ batch_events bs ++ b
 events_more bs b = sym (flat_map_more (λ b. b) [] bs b)
 
@@ -52,7 +52,7 @@ events_more bs b = sym (flat_map_more (λ b. b) [] bs b)
 pub board_values : (values : List ℕ) (G : List Event) → length (board_of values G).values ≡ length values
 board_values values G = length-map-range_with_len (table (values_of values) G) 0 (length values)
 
--- More events step the board of a list to that of the longer list.
+-- The events F change the board of a list to that of the longer list.
 pub board_all : (values : List ℕ) (G F : List Event) → All (ItemsFit (length values)) F → All BasesRead F → step_all (board_of values G) F ≡ board_of values (G ++ F)
 board_all values G [] fits bases = ap (board_of values) (sym (append-nil G))
 board_all values G (e ∷ F) fits bases =
@@ -82,17 +82,17 @@ lt_is m n h = grind (arith, leb_tells)
 lt_not : (m n : ℕ) → n ≤ m → nat_lt m n ≡ false
 lt_not m n h = grind (arith, leb_tells)
 
--- A batch for as many items changes the board, where there is a number for one more cycle.
+-- A batch for as many items as the board has changes the board, if one more cycle can be numbered.
 pub batch_taken : (b : Board) (items : ℕ) (batch : List Event) → items ≡ length b.values → b.cycle < 4294967294 → after_batch b items batch ≡ step_all b batch
 unfolding after_batch
 batch_taken b items batch n c = both_true (items == length b.values) (nat_lt b.cycle 4294967294) (eq-eqb items (length b.values) n) (lt_is b.cycle 4294967294 c) (step_all b batch) b
 
--- A batch for another number of items leaves it.
+-- A batch for another number of items leaves the board unchanged.
 pub other_items : (b : Board) (items : ℕ) (batch : List Event) → (items ≡ length b.values → ⊥) → b ≡ after_batch b items batch
 unfolding after_batch
 other_items b items batch n = sym (first_false (items == length b.values) (nat_lt b.cycle 4294967294) (ne_eqb items (length b.values) n) (step_all b batch) b)
 
--- So does any batch, where there is none.
+-- If no further cycle can be numbered, any batch leaves the board unchanged.
 pub no_cycle : (b : Board) (items : ℕ) (batch : List Event) → 4294967294 ≤ b.cycle → b ≡ after_batch b items batch
 unfolding after_batch
 no_cycle b items batch n = sym (second_false (items == length b.values) (nat_lt b.cycle 4294967294) (lt_not b.cycle 4294967294 n) (step_all b batch) b)

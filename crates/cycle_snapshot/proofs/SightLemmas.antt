@@ -1,4 +1,4 @@
--- A step that shows a later copy keeps the rule of the two copies.
+-- A step that shows a later side keeps the rule of the two sides.
 use Rattle.std.proofs.Common.{◌≡◌, ◌≢◌, ℕ, zero, suc, ◌<◌, List, [], ◌∷◌, ◌++◌, length, Option, Some, None, All, set, refl, sym, ap, ◌∙◌, subst, ⊎_elim, arith, length-append}
 use Rattle.std.proofs.lemmas.List.Elements.{All-push}
 use mathlib.Core.Option.{some, some-injective, some-ne-none}
@@ -17,7 +17,7 @@ use Rattle.cycle_snapshot.specs.SideRule.{IsPublished, Follows, Agrees, Keeps, S
 use Rattle.cycle_snapshot.proofs.PrefixLemmas.{prefix_self, prefix_trans}
 use Rattle.cycle_snapshot.proofs.BatchLemmas.{events_more, starts_events, board_values, board_all, batch_taken}
 
--- ---- what goes on from what
+-- ---- which side follows which
 
 pub follows_self : (x : BoardSide) → Follows x x
 follows_self x = record { values = refl; most = refl; publisher = refl; batches = prefix_self x.list.batches }
@@ -34,7 +34,7 @@ agrees_on : (v : Option BoardSide) (x y : BoardSide) → Agrees v x → Follows 
 agrees_on None x y a f = tt
 agrees_on (Some w) x y a f = follows_on w x y a f
 
--- A step from a copy to one that follows it keeps the rule, and its seat sees the later copy.
+-- A step from a side to one that follows it keeps the rule, and its seat sees the later side.
 pub sees : (seat : ℕ) (v : Option BoardSide) (x y : BoardSide) → Follows x y → (IsPublished x → IsPublished y) → TurnsAt Keeps seat v x y Sees
 sees seat v x y f is views h at = (
   Some y,
@@ -51,11 +51,11 @@ admits x views h = (h.0, λ j u e. ⊎_elim (h.1 j u) (λ (t : None ≡ u). subs
 agree_set : (x : BoardSide) (views : List (Option BoardSide)) (seat : ℕ) (w : Option BoardSide) → ((j : ℕ) (v : Option BoardSide) → get_elem? views j ≡ some v → Agrees v x) → Agrees w x → (j : ℕ) (v : Option BoardSide) → get_elem? (set views seat w) j ≡ some v → Agrees v x
 agree_set x views seat w h a j u e = ⊎_elim (λ (t : (j ≡ seat) × (w ≡ u)). subst (λ z. Agrees z x) t.1 a) (λ (t : (j ≢ seat) × (get_elem? views j ≡ some u)). h j u t.1) (at_set views seat j w u e)
 
--- A note of what a seat saw.
+-- A seat may note what it saw.
 pub forks : (seat : ℕ) (v : Option BoardSide) → Forks Keeps seat v v v
 forks seat v x views h at = let a = h.1 seat v at in (h.0, λ j u e. ⊎_elim (agree_set x views seat v h.1 a j u) (λ (t : v ≡ u). subst (λ z. Agrees z x) t a) (at_snoc (set views seat v) v u j e))
 
--- A seat that takes over a note.
+-- A seat takes over a note.
 pub merges : (seat : ℕ) (v : Option BoardSide) (other : ℕ) (w : Option BoardSide) → Merges Keeps seat v other w w None
 merges seat v other w x views h at apart there = let a = ⊎_elim (λ (t : (other ≡ seat) × (w ≡ w)). absurd (apart t.0)) (λ (t : (other ≢ seat) × (get_elem? views other ≡ some w)). h.1 other w t.1) (at_set views seat other w w there) in
     (h.0, agree_set x (set views seat w) other None (agree_set x views seat w h.1 a) tt)
@@ -64,17 +64,17 @@ only_none : (x : BoardSide) (j : ℕ) (v : Option BoardSide) → get_elem? (None
 only_none x zero v e = subst (λ z. Agrees z x) (some-injective None v e) tt
 only_none x (suc j) v e = absurd (some-ne-none v (sym e))
 
--- The rule holds of a first copy.
+-- The rule holds of a first side.
 pub opens_rule : (x : BoardSide) → IsPublished x → Keeps x (None ∷ [])
 opens_rule x h = (h, only_none x)
 
--- ---- copies
+-- ---- sides
 
--- The board of a copy has as many values as it started from.
+-- The board of a side has as many values as it started from.
 pub shown_values : (x : BoardSide) → IsPublished x → length x.board.values ≡ length x.values
 shown_values x h = ap (λ b. length b.values) h.board ∙ board_values x.values (batch_events x.list.batches)
 
--- The copy that took in news that are next follows, and is as it must be.
+-- The side that took in the news that is next follows the old one, and is valid.
 pub news_follow : (x next : BoardSide) (n : News) → next ≡ after_news x n → IsNextNews x n → Follows x next × (IsPublished x → IsPublished next)
 news_follow x next n is k =
     let log : next.list.batches ≡ x.list.batches ++ n.batch ∷ [] = ap (λ y. y.list.batches) is ∙ ap (λ l. l.batches) k.list in
@@ -104,7 +104,7 @@ none_good : (n : ℕ) (bs : List (List Event)) → bs ≡ [] → All (IsBatch n)
 none_good n [] e = λ k d l. absurd (omega arith)
 none_good n (b ∷ bs) e = absurd (cc (e))
 
--- The copy of the empty list is as it must be.
+-- The side of the empty list is valid.
 pub first_is : (x : BoardSide) (values : List ℕ) (most : ℕ) (list : Beginning) → x ≡ record { board = board_of values []; values = values; most = most; list = list } → list.batches ≡ [] → most < 4294967295 → IsPublished x
 first_is x values most list e none small = subst IsPublished (sym e) record {
   board = ap (board_of values) (ap batch_events (sym none));
@@ -113,6 +113,6 @@ first_is x values most list e none small = subst IsPublished (sym e) record {
   batches = none_good (length values) list.batches none;
 }
 
--- What a function of what is there gives, where it is there.
+-- What a function gives for a value that is there.
 pub at_some : {X Y : Type 0} (F : X → Option Y) (o : Option X) (r : X) (y : Y) → o ≡ Some r → (elim o as (λ _. Option Y) [ None ↦ None | Some x ↦ F x ]) ≡ Some y → F r ≡ Some y
 at_some F o r y e h = subst (λ p. (elim p as (λ _. Option _) [ None ↦ None | Some x ↦ F x ]) ≡ Some y) e h

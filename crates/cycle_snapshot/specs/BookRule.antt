@@ -11,6 +11,6 @@ IsCounted cells log = cells ≡ (length log, true) ∷ (0, true) ∷ []
 abbrev pub batch_counter : Book → Named
 batch_counter book = record { tracked = true; key = 0; book = book }
 
--- Where the word was found as it was seen, the batch was added to all that had been seen; else the list is longer.
+-- If the word had the value that was seen before, the batch was added to all that had been seen; otherwise the list is longer.
 abbrev pub AddsToBook : Step Batch → View Batch ℕ → ℕ → View Batch ℕ → Type 0
 AddsToBook step before found after = MatchBool (found == step.old) (after.0 ≡ before.0 ++ step.ask ∷ []) (Unit {0})

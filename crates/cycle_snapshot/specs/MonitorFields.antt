@@ -6,17 +6,17 @@ use Rattle.cycle_snapshot.specs.declared.board_sides.BoardSide.{BoardSide}
 use Rattle.cycle_snapshot.specs.declared.monitors.Monitor.TheInside.{Inside}
 use Rattle.cycle_snapshot.specs.SnapshotStates.{MonitorState}
 
--- The starting values of a copy, if there is one.
+-- The starting values of a side, if there is one.
 abbrev pub starting_values : Option BoardSide → List ℕ
 starting_values None = []
 starting_values (Some x) = x.values
 
--- The most batches of a copy, if there is one.
+-- The most batches of a side, if there is one.
 abbrev pub most_in : Option BoardSide → ℕ
 most_in None = 0
 most_in (Some x) = x.most
 
--- The copy that the reader saw last.
+-- The side that the monitor saw last.
 abbrev pub last_view : Inside → Option BoardSide
 last_view m = elim m.reader as (λ _. Option BoardSide) [ None ↦ None | Some r ↦ view r.place ]
 
@@ -32,12 +32,12 @@ monitor_in m = record {
   looks = m.looks;
 }
 
--- It has a reader that saw a copy, whose list goes on from what the monitor saw; both notes are of that copy's publisher, and the kept frame
--- has as many values.
+-- The monitor saw a side, whose list continues what the monitor saw. Both notes are of that side's publisher, and the kept
+-- frame has as many values as the side.
 pub record IsMonitor (m : Inside) : Type 0 where
-  pub copy : BoardSide
-  pub is : last_view m ≡ Some copy
-  pub seen_of : m.seen.publisher ≡ copy.list.publisher
-  pub seen_begins : IsPrefix m.seen.batches copy.list.batches
-  pub told_of : m.told.publisher ≡ copy.list.publisher
-  pub sized : length m.kept.values ≡ length copy.values
+  pub side : BoardSide
+  pub is : last_view m ≡ Some side
+  pub seen_of : m.seen.publisher ≡ side.list.publisher
+  pub seen_begins : IsPrefix m.seen.batches side.list.batches
+  pub told_of : m.told.publisher ≡ side.list.publisher
+  pub sized : length m.kept.values ≡ length side.values

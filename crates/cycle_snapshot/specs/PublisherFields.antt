@@ -7,7 +7,7 @@ use Rattle.cycle_snapshot.specs.BookRule.{batch_counter}
 use Rattle.cycle_snapshot.specs.SideRule.{IsPublished}
 use Rattle.cycle_snapshot.specs.SnapshotStates.{PublisherState}
 
--- The publisher that shows the copy.
+-- The publisher that shows the side.
 abbrev pub publisher_of : BoardSide → PublisherState
 publisher_of x = record { id = x.list.publisher; values = x.values; most = x.most; batches = x.list.batches }
 
@@ -15,7 +15,8 @@ publisher_of x = record { id = x.list.publisher; values = x.values; most = x.mos
 abbrev pub publisher_in : Inside → PublisherState
 publisher_in p = publisher_of p.writer.desk.shown.value
 
--- Its view is the copy that it shows, its list is that copy's, nothing is pending, and it has the word that counts its list.
+-- The publisher's view is the side that it shows, its list is that side's, nothing is pending, and it has the word that counts
+-- its list.
 pub record IsPublisher (p : Inside) : Type 0 where
   pub sees : view p.writer.desk.place ≡ Some p.writer.desk.shown.value
   pub list : p.writer.desk.shown.value.list ≡ p.list

@@ -1,4 +1,4 @@
--- The rule of the two copies, and what a step of a reader or of the writer tells. A view is the copy that was seen last.
+-- The rule of the two sides, and what a step of a monitor or of the publisher tells. A view is the side that was seen last.
 use Rattle.std.specs.Prelude.{◌≡◌, ℕ, ◌≤◌, ◌<◌, ◌-◌, ◌^◌, List, [], ◌∷◌, ◌++◌, length, Option, Some, None, All}
 use mathlib.Core.Option.{some}
 use mathlib.Core.List.{IsPrefix}
@@ -17,34 +17,35 @@ pub record IsPublished (x : BoardSide) : Type 0 where
   pub most : x.most < 2 ^ 32 - 1
   pub batches : All (IsBatch (length x.values)) x.list.batches
 
--- The copy y comes after the copy x, or is the same: one publisher's, with the same values, and a list that goes on from x's.
+-- The side y follows the side x, or is equal to it: it is of the same publisher, with the same values, and its list continues
+-- x's.
 pub record Follows (x y : BoardSide) : Type 0 where
   pub values : y.values ≡ x.values
   pub most : y.most ≡ x.most
   pub publisher : y.list.publisher ≡ x.list.publisher
   pub batches : IsPrefix x.list.batches y.list.batches
 
--- The copy goes on from what a seat saw last, if it saw any.
+-- The side follows what a seat saw last, if the seat saw any.
 abbrev pub Agrees : Option BoardSide → BoardSide → Type 0
 Agrees None y = Unit {0}
 Agrees (Some x) y = Follows x y
 
--- The rule: the shown copy is as it must be, and goes on from what each seat saw.
+-- The rule: the shown side is valid, and follows what each seat saw.
 abbrev pub Keeps : BoardSide → List (Option BoardSide) → Type 0
 Keeps x views = IsPublished x × ((seat : ℕ) (v : Option BoardSide) → get_elem? views seat ≡ some v → Agrees v x)
 
--- The copy y was seen, and goes on from what had been seen.
+-- The side y was seen, and follows what had been seen.
 abbrev pub Sees : Option BoardSide → BoardSide → BoardSide → Option BoardSide → Type 0
 Sees v x y w = (w ≡ Some y) × Agrees v y × IsPublished y
 
--- The frame of the copy y was copied, whose list goes on from the note, and that list was given.
+-- The frame of the side y was copied. The side's list continues the note, and that list was given.
 pub record HasCopied (y : BoardSide) (note : Beginning) (frame : Frame) (given : Beginning) : Type 0 where
   pub shown : IsPublished y
   pub told : IsPrefix note.batches y.list.batches
   pub kept : frame ≡ frame_of y.values (batch_events y.list.batches)
   pub list : given ≡ y.list
 
--- The news is a batch for the copy with the list that ends with it, and there is room for it.
+-- The news is a batch for the side, with the list that ends with it, and there is room for it.
 pub record IsNextNews (x : BoardSide) (news : News) : Type 0 where
   pub list : news.list ≡ record x.list { batches = x.list.batches ++ news.batch ∷ [] }
   pub items : news.items ≡ length x.values

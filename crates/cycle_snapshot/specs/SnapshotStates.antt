@@ -6,7 +6,7 @@ use Rattle.air_history.specs.Boards.{Frame, frame_of}
 use Rattle.cycle_snapshot.specs.Batches.{IsBatch, batch_events}
 use Rattle.cycle_snapshot.specs.Beginnings.{PublisherId, Beginning}
 
--- Which publisher it is, the values that its history starts from, the most batches that it publishes, and those that it has.
+-- The publisher's identity, the values that its history starts from, the most batches that it publishes, and those that it has.
 pub record PublisherState : Type 0 where
   pub id : PublisherId
   pub values : List ℕ
@@ -17,7 +17,7 @@ pub record PublisherState : Type 0 where
 abbrev pub new_publisher : PublisherId → List ℕ → ℕ → PublisherState
 new_publisher id values most = record { id = id; values = values; most = most; batches = [] }
 
--- The publisher with one batch more.
+-- The publisher with one more batch.
 abbrev pub with_batch : PublisherState → List Event → PublisherState
 with_batch p batch = record p { batches = p.batches ++ batch ∷ [] }
 
@@ -25,8 +25,8 @@ with_batch p batch = record p { batches = p.batches ++ batch ∷ [] }
 abbrev pub published_list : PublisherState → Beginning
 published_list p = record { publisher = p.id; batches = p.batches }
 
--- A monitor's publisher, with its starting values and its most batches; the beginning of its list that was seen last, and the longest
--- that was told; the frame that the monitor keeps, and the number of its looks.
+-- A monitor: its publisher, with the starting values and the most batches; the beginning of the list that was seen last, and
+-- the longest that was told; the frame that the monitor keeps, and the number of its looks.
 pub record MonitorState : Type 0 where
   pub publisher : PublisherId
   pub values : List ℕ
@@ -36,7 +36,7 @@ pub record MonitorState : Type 0 where
   pub kept : Frame
   pub looks : ℕ
 
--- A monitor that has not looked: it keeps the frame of the empty list.
+-- A monitor that hasn't looked: it keeps the frame of the empty list.
 abbrev pub new_monitor : PublisherState → MonitorState
 new_monitor p = record {
   publisher = p.id;
@@ -48,8 +48,8 @@ new_monitor p = record {
   looks = 0;
 }
 
--- A monitor m looked and is then n: it has seen whole batches, no more than the most, that go on from all that it saw or was told, and
--- keeps their frame; the number of looks is raised, up to its last value; nothing else changed.
+-- A monitor m looked and is then n. It has seen whole batches, at most the most, which continue all that it saw or was told,
+-- and keeps their frame. The number of looks goes up by 1, up to its last value. Nothing else changed.
 pub record HasLooked (m n : MonitorState) : Type 0 where
   pub seen : IsPrefix m.seen n.seen
   pub told : IsPrefix m.told n.seen

@@ -23,7 +23,7 @@ impl Model for Batch {
     ghost view = { λ b. b.events.items };
 }
 
-/// Hands a rule of all updates to a caller's proof, that each base is read; it does nothing.
+/// For proofs only: tells the caller that each base of each update is read. It does nothing at run time.
 fn shows_all_rules_kept(events: &[Event])
     ensures { All BasesRead events.now }
 {

@@ -1,4 +1,4 @@
-//! What each of the two copies of `left_right` holds, and the news that both take in, one after the other.
+//! What each of the two sides of `left_right` holds, and the news that both take in, one after another.
 ghost use Rattle.std.specs.Prelude.{◌≡◌};
 ghost use Rattle.cycle_snapshot.specs.Private.BoardRuns.{after_batch};
 
@@ -19,7 +19,7 @@ pub struct BoardSide {
     pub list: Told,
 }
 
-/// A batch for so many items, and the list that ends with it.
+/// A batch for this many items, and the list that ends with it.
 #[derive(Drop)]
 pub struct News {
     pub batch: Batch,
@@ -38,7 +38,7 @@ impl Model for News {
     ghost invariant = { λ n. IsBatch n.items n.batch };
 }
 
-/// Changes the board by the batch, where it is for as many items and there is a number for one more cycle.
+/// Changes the board by the batch, if the batch is for as many items and one more cycle can be numbered.
 fn absorb_batch(board: &mut Board, news: &News)
     ensures { board.new ≡ after_batch board.old news.now.items news.now.batch }
 {

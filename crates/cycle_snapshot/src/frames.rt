@@ -60,7 +60,7 @@ fn copy_columns(columns: &mut [Vec<u32>], board: &Board)
     }
 }
 
-/// So many columns of as many zeros.
+/// This many columns, each with as many zeros.
 fn zero_columns(alloc: Global, n: u16) -> Result<Vec<Vec<u32>>, NoMemory>
     ensures { IfOk result (λ columns. (length columns.items ≡ n) × All (λ c. length c.items ≡ n) columns.items) }
 {
@@ -87,7 +87,7 @@ impl KeptFrame {
         Ok(frame)
     }
 
-    /// Makes it the frame of the list of events whose board this is. It takes no memory.
+    /// Makes this the frame of the list of events whose board that is. It takes no memory.
     pub fn copy(&mut self, board: &Board)
         requires { length self.old.values ≡ length board.now.values }
         ensures { (values : List ℕ) (G : List Event) → board.now ≡ board_of values G → self.new ≡ frame_of values G }

@@ -13,7 +13,7 @@ use crate::told::Told;
 use air_base::NoMemory;
 use std::marker::Model;
 
-/// Copies the shown frame into the kept one, and gives its list, if that goes on from what was told.
+/// Copies the shown frame into the kept one, and gives its list, if that continues what was told.
 fn take_frame(reader: SideReader, kept: &mut KeptFrame, told: &Told) -> (SideReader, Option<Told>)
     requires seen { (x : BoardSide) × (view reader.place ≡ Some x) × (told.now.publisher ≡ x.list.publisher) × (length kept.old.values ≡ length x.values) }
     ensures looked { (x : BoardSide) → view reader.place ≡ Some x →
@@ -35,7 +35,7 @@ fn take_frame(reader: SideReader, kept: &mut KeptFrame, told: &Told) -> (SideRea
     (reading.leave(), Some(list))
 }
 
-/// It looks at one publisher's list.
+/// A monitor, which looks at one publisher's list.
 #[derive(Drop)]
 pub struct Monitor {
     pub(crate) reader: Option<SideReader>,
@@ -57,8 +57,9 @@ impl Model for Monitor {
 }
 
 impl Monitor {
-    /// Copies the frame of a beginning of the published list into the one that it keeps. It waits for nobody and takes no memory: `NoMemory`
-    /// is where `left_right` refuses the look, or shows less than was told, and then the monitor is as before.
+    /// Copies the frame of a beginning of the published list into the one that the monitor keeps. It never waits and takes no
+    /// memory. It answers `NoMemory` if `left_right` refuses the look, or shows less than was told; the monitor is then as
+    /// before.
     pub fn look(&mut self) -> Result<(), NoMemory>
         ensures { MatchResult result (λ _. HasLooked self.old self.new) (λ _. self.new ≡ self.old) }
     {
@@ -77,7 +78,7 @@ impl Monitor {
         }
     }
 
-    /// The monitor knows the list that was told: its next look goes on from it.
+    /// Tells the monitor this list: its next look continues it.
     pub fn learn(&mut self, told: Told)
         requires own { told.publisher ≡ self.old.publisher }
         ensures told { IsPrefix self.old.told self.new.told × IsPrefix told.batches self.new.told }

@@ -15,8 +15,8 @@ use control_matrix::Board;
 use std::alloc::Global;
 use std::sync::Wait;
 
-/// A copy of the empty list.
-fn first_copy(alloc: Global, values: &[u64], most: u32, list: &Told) -> Result<BoardSide, NoMemory>
+/// A side of the empty list.
+fn first_side(alloc: Global, values: &[u64], most: u32, list: &Told) -> Result<BoardSide, NoMemory>
     requires values { (1 ≤ length values.now) × (length values.now ≤ MOST_VALUES) }
     ensures { IfOk result (λ x. x ≡ record { board = board_of values.now []; values = values.now; most = most; list = list.now }) }
 {
@@ -31,7 +31,7 @@ fn first_copy(alloc: Global, values: &[u64], most: u32, list: &Told) -> Result<B
 }
 
 impl Publisher {
-    /// A publisher of the empty list, with room for so many monitors.
+    /// A publisher of the empty list, with room for this many monitors.
     fn open<R: Wait>(
         wait: &R,
         alloc: Global,
@@ -45,8 +45,8 @@ impl Publisher {
         ensures { IfOk result (λ p. p ≡ new_publisher p.id values.now most) }
     {
         let (list, head) = Told::open();
-        let first = first_copy(alloc, values, most, &list)?;
-        let second = first_copy(alloc, values, most, &list)?;
+        let first = first_side(alloc, values, most, &list)?;
+        let second = first_side(alloc, values, most, &list)?;
         let writer = open_writer(wait, alloc, first, second, monitors as usize + 1)?;
         Ok(Publisher { writer, head, list })
     }
@@ -68,7 +68,7 @@ impl Publisher {
         })
     }
 
-    /// Puts so many monitors into the empty vector, which has the room.
+    /// Puts this many monitors into the empty vector, which has room for them.
     fn add_monitors(
         &mut self,
         alloc: Global,
@@ -88,8 +88,8 @@ impl Publisher {
     }
 }
 
-/// A publisher of the empty list, which will have at most `most` batches, and its monitors. Every frame starts from these values. The publisher
-/// ends by `close`. The first publishing, of the values, meets no reader.
+/// A publisher of the empty list, which will have at most `most` batches, and its monitors. Every frame starts from these
+/// values. The publisher is ended by `close`. The first publishing, of the values, has no reader.
 pub fn publisher<R: Wait>(
     wait: &R,
     alloc: Global,

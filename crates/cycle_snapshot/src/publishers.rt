@@ -1,4 +1,4 @@
-//! The publisher: it adds batches to a list, of which each look takes a beginning.
+//! The publisher: it adds batches to a list, and each look sees a beginning of the list.
 ghost use Rattle.std.specs.Prelude.{◌≡◌, ◌<◌, ◌∷◌, [], length, drop, Some, MatchResult, IsOk};
 ghost use Rattle.left_right.specs.Sides.{view};
 ghost use Rattle.cycle_snapshot.specs.declared.board_sides.News.{News};
@@ -10,7 +10,7 @@ ghost use Rattle.cycle_snapshot.specs.SnapshotStates.{with_batch, published_list
 use crate::batches::Batch;
 use crate::board_sides::News;
 use crate::rule::{SideWriter, SightStep};
-use crate::told::{Head, Told};
+use crate::told::{ListHead, Told};
 use air_base::NoMemory;
 use air_history::Event;
 use core::mem::replace_with;
@@ -18,7 +18,7 @@ use std::alloc::AllocError;
 use std::marker::Model;
 use std::sync::Wait;
 
-/// One step of the two copies, by the one news that is pending.
+/// One step of the two sides, with the one news that is pending.
 fn publish_step<R: Wait>(writer: SideWriter, wait: &R) -> (SideWriter, Result<(), AllocError>)
     requires seen { view writer.desk.place ≡ Some writer.desk.shown.value }
     requires news { (n : News) × (drop writer.behind writer.log.items ≡ n ∷ []) × IsNextNews writer.desk.shown.value n }
@@ -32,10 +32,10 @@ fn publish_step<R: Wait>(writer: SideWriter, wait: &R) -> (SideWriter, Result<()
     writer.publish_as::<SightStep, R>(wait)
 }
 
-/// It publishes batches. It can't be dropped: `close` ends it.
+/// A publisher of batches. It can't be dropped: `close` ends it.
 pub struct Publisher {
     pub(crate) writer: SideWriter,
-    pub(crate) head: Head,
+    pub(crate) head: ListHead,
     pub(crate) list: Told,
 }
 
@@ -51,9 +51,9 @@ impl Model for Publisher {
 }
 
 impl Publisher {
-    /// Adds the batch to the published list, at one step; `Event::is_start` and `Event::fits` tell whether it is one. It waits for monitors that
-    /// are within a look. After `NoMemory` the batch is dropped, the published list is as before, and each later call may answer
-    /// `NoMemory` too: once `left_right` has refused one, each does.
+    /// Adds the batch to the published list, in one step; `Event::is_start` and `Event::fits` test whether the events are a
+    /// batch. It waits for monitors that are within a look. After `NoMemory` the batch is dropped and the published list is as
+    /// before. Later calls may answer `NoMemory` too: once `left_right` has refused one call, it refuses each.
     pub fn publish<R: Wait>(&mut self, wait: &R, batch: Vec<Event>) -> Result<(), NoMemory>
         requires batch { IsBatch (length self.old.values) batch.items }
         requires room { length self.old.batches < self.old.most }
@@ -85,7 +85,7 @@ impl Publisher {
         }
     }
 
-    /// A note of the published list, as often as it is asked.
+    /// A note of the published list; any number of notes may be made.
     pub fn tell(&self) -> Told
         ensures { result ≡ published_list self.now }
     {

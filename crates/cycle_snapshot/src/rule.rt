@@ -1,11 +1,11 @@
-//! The rule of the two copies, and the steps of the writer and of readers. A view is the copy that was seen last.
+//! The rule of the two sides, and the steps of the writer and of readers. A view is the side that was seen last.
 use crate::board_sides::{BoardSide, News};
 use atomic_table::{Join, Split};
 use crossbeam_utils::rule::{Outcome, Protocol};
 use left_right::reader::Reader;
 use left_right::writer::Writer;
 
-/// The rule: the shown copy is the board of its list, which goes on from what each seat saw.
+/// The rule: the shown side is the board of its list, which continues what each seat saw.
 pub struct SideRule;
 
 impl Protocol<BoardSide, Option<BoardSide>> for SideRule {
@@ -17,7 +17,7 @@ impl Protocol<BoardSide, Option<BoardSide>> for SideRule {
     ghost first = { None };
 }
 
-/// The step that sees the shown copy: a look, or a batch published.
+/// The step that sees the shown side: a look, or a batch published.
 pub struct SightStep;
 
 impl Outcome<BoardSide, Option<BoardSide>> for SightStep {
@@ -43,8 +43,8 @@ impl Join<Option<BoardSide>> for TellRule {
     ghost spent = { None };
 }
 
-/// A reader of the shown copy.
+/// A monitor's reader of the shown side.
 pub type SideReader = Reader<BoardSide, Option<BoardSide>, SideRule>;
 
-/// The writer of both copies.
+/// The writer of both sides.
 pub type SideWriter = Writer<BoardSide, News, Option<BoardSide>, SideRule>;

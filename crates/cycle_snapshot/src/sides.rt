@@ -1,4 +1,4 @@
-//! The writer of the two copies, and its readers: how they are made.
+//! The writer of the two sides, and its readers: how they are made.
 ghost use Rattle.std.specs.Prelude.{◌≡◌, ◌<◌, ◌^◌, [], drop, Some, IfOk};
 ghost use Rattle.left_right.specs.Sides.{view};
 ghost use Rattle.cycle_snapshot.specs.SideRule.{IsPublished};
@@ -9,7 +9,7 @@ use air_base::NoMemory;
 use std::alloc::Global;
 use std::sync::Wait;
 
-/// A writer that saw the copy that it shows.
+/// A writer that saw the side that it shows.
 pub fn open_writer<R: Wait>(
     wait: &R,
     alloc: Global,

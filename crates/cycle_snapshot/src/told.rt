@@ -1,4 +1,4 @@
-//! A beginning of the list of batches. The list only grows; it exists for the proofs alone, but for its length.
+//! A beginning of the list of batches. The list only grows. Except for its length it exists only in proofs.
 ghost use Rattle.std.specs.Prelude.{◌≡◌, ◌<◌, ◌≤◌, ◌^◌, ◌++◌, ◌∷◌, [], length, MatchBool};
 ghost use mathlib.Core.List.{IsPrefix};
 ghost use Rattle.cycle_snapshot.specs.BookRule.{batch_counter};
@@ -29,7 +29,7 @@ impl Rule<Batch, u64> for BookRule {
     ghost moves = { λ ask before after answer. Unit {0} };
 }
 
-/// Nothing is gained by a step of the book.
+/// A step of the book gains nothing.
 pub struct Nothing;
 
 impl Gain<Batch, u64> for Nothing {
@@ -55,10 +55,10 @@ impl Plain<Batch, Batch, u64> for Add {
     ghost state = { λ batch. None };
 }
 
-/// The word that counts the batches. Whoever has it adds to the list.
-pub type Head = Word<Batch, u64, BookRule>;
+/// The word that counts the batches. Its owner adds to the list.
+pub type ListHead = Word<Batch, u64, BookRule>;
 
-/// A note of a beginning of the list that one publisher publishes. Contracts see which publisher it is, and the batches.
+/// A note of a beginning of the list that one publisher publishes. Contracts see the publisher's identity and the batches.
 #[derive(Drop)]
 pub struct Told {
     count: u64,
@@ -78,7 +78,7 @@ impl Model for Told {
 
 impl Told {
     /// The beginning of a new list, which is empty, with the word that counts it.
-    pub(crate) fn open() -> (Told, Head)
+    pub(crate) fn open() -> (Told, ListHead)
         ensures { (result.0.batches ≡ []) × (result.1 ≡ batch_counter result.0.publisher) }
     {
         let (seen, mut first, _second) = Seen::open(Start::alone(), 0, 0);
@@ -92,7 +92,7 @@ impl Told {
         self.count
     }
 
-    /// The same note again.
+    /// An equal note.
     pub(crate) fn again(&self) -> Told
         ensures { result ≡ self.now }
     {
@@ -102,7 +102,8 @@ impl Told {
         }
     }
 
-    /// Hands to a caller's proof that of two beginnings of one list the shorter begins the longer; it does nothing.
+    /// For proofs only: tells the caller that of two beginnings of one list the shorter is a beginning of the longer. It does
+    /// nothing at run time.
     pub(crate) fn shows_prefix(&self, longer: &Told)
         requires own { longer.now.publisher ≡ self.now.publisher }
         requires shorter { length self.now.batches ≤ length longer.now.batches }
@@ -112,8 +113,8 @@ impl Told {
         both.learn(&longer.seen);
     }
 
-    /// Adds a batch, and says whether it did. It did not where the list is longer.
-    pub(crate) fn add(&mut self, head: &Head, batch: &Batch) -> bool
+    /// Adds a batch, and says whether it was added. It isn't added if the list is longer.
+    pub(crate) fn add(&mut self, head: &ListHead, batch: &Batch) -> bool
         requires head { head.now ≡ batch_counter self.old.publisher }
         requires room { length self.old.batches < 2 ^ 62 }
         ensures added { MatchBool result

@@ -13,15 +13,15 @@ starts_one : (e : Event) → is_start e ≡ false → starts (e ∷ []) ≡ 0
 unfolding starts
 starts_one e commit = let none = cond-false {A = ℕ} (is_start e) 1 0 commit in omega (arith, sum_by-cons (λ e. cond (is_start e) 1 0) e [], none)
 
--- A commit more is no start.
+-- One more commit is no start.
 pub no_start : (G : List Event) (e : Event) → starts G ≡ 0 → is_start e ≡ false → starts (G ++ e ∷ []) ≡ 0
 no_start G e none commit = let a = starts_append G (e ∷ []) in let one = starts_one e commit in omega arith
 
--- All of none.
+-- A property of all elements holds of an empty list.
 pub all_none : {A : Type 0} (P : A → Type 0) (xs : List A) → xs ≡ [] → All P xs
 all_none P xs e = let n = ap length e in λ k d l. absurd (omega arith)
 
--- No events have no start.
+-- A list without events has no start.
 pub none_yet : (G : List Event) → G ≡ [] → starts G ≡ 0
 unfolding starts
 none_yet G e = ap starts e
@@ -30,6 +30,6 @@ start_fits : (n : ℕ) → ItemsFit n Start
 unfolding ItemsFit
 start_fits n = tt
 
--- Fitting commits, and a start, are a batch.
+-- Fitting commits followed by a start are a batch.
 pub batch_ends : (n : ℕ) (G : List Event) → All (ItemsFit n) G → starts G ≡ 0 → IsBatch n (G ++ Start ∷ [])
 batch_ends n G fits none = record { fits = All-push (ItemsFit n) G Start fits (start_fits n); ends = (G, refl, none) }

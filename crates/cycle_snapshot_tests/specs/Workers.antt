@@ -1,4 +1,4 @@
--- What stays of a publisher and of a monitor while one publishes and the other looks.
+-- What doesn't change of a publisher and of a monitor while one publishes and the other looks.
 use Rattle.std.specs.Prelude.{◌≡◌, length}
 use Rattle.cycle_snapshot.specs.SnapshotStates.{PublisherState, MonitorState}
 
@@ -10,6 +10,6 @@ IsSamePublisher m n = (n.publisher ≡ m.publisher) × (n.values ≡ m.values) �
 abbrev pub HasThree : MonitorState → Type 0
 HasThree m = length m.values ≡ 3
 
--- It is the same publisher, with the same values and the same most batches.
+-- The publisher is the same, with the same values and the same most batches.
 abbrev pub StaysPublisher : PublisherState → PublisherState → Type 0
 StaysPublisher p q = (q.id ≡ p.id) × (q.values ≡ p.values) × (q.most ≡ p.most)

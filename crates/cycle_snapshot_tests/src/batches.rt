@@ -9,7 +9,7 @@ use cycle_snapshot::Publisher;
 use std::alloc::Global;
 use std::sync::Wait;
 
-/// A write: the item, the read item whose value is taken, if any, and the amount that is put or added.
+/// A write: the item, the read item whose value is the base, if any, and the amount that is put or added.
 pub type WriteRow = (u16, Option<u16>, u64);
 
 /// A commit: its updater, the updater's number for it, the items that it reads, and what it writes.
@@ -32,7 +32,7 @@ fn update_of(alloc: Global, reads: &[u16], puts: &[WriteRow]) -> Result<Update, 
     }
 }
 
-/// The commits of the rows, and a start. A row that does not fit this number of items counts as out of memory.
+/// The commits of the rows, and a start. A row that doesn't fit this number of items counts as out of memory.
 pub fn batch_of(alloc: Global, items: u16, rows: &[Row<'_>]) -> Result<Vec<Event>, NoMemory>
     ensures { IfOk result (λ batch. IsBatch items batch.items) }
 {
@@ -52,7 +52,7 @@ pub fn batch_of(alloc: Global, items: u16, rows: &[Row<'_>]) -> Result<Vec<Event
     Ok(batch)
 }
 
-/// Publishes this number of batches. Each adds 1 to item 0, and then puts its value into item 1.
+/// Publishes this number of batches. Each adds 1 to item 0, and then writes its value to item 1.
 pub fn publish_all<R: Wait>(
     wait: &R,
     alloc: Global,

@@ -1,4 +1,4 @@
-//! The last look: after all was told.
+//! The last look, after all was told.
 ghost use Rattle.std.specs.Prelude.{◌≡◌, length, IfOk};
 ghost use Rattle.air_history.specs.Boards.{frame_of};
 ghost use Rattle.cycle_snapshot.specs.Batches.{batch_events};
@@ -6,8 +6,8 @@ ghost use Rattle.cycle_snapshot.specs.Batches.{batch_events};
 use air_base::NoMemory;
 use cycle_snapshot::{Monitor, Publisher};
 
-/// A look after the monitor was told the list of a publisher that has all its batches: it gives just that list, whatever the
-/// monitor saw before.
+/// A look after the monitor was told the list of a publisher that has all its batches. It gives exactly that list, for anything
+/// that the monitor saw before.
 pub fn last_look(publisher: &Publisher, monitor: &mut Monitor) -> Result<(), NoMemory>
     requires own { monitor.old.publisher ≡ publisher.now.id }
     requires full { length publisher.now.batches ≡ monitor.old.most }
@@ -18,7 +18,7 @@ pub fn last_look(publisher: &Publisher, monitor: &mut Monitor) -> Result<(), NoM
     monitor.look()
 }
 
-/// Last looks at two publishers, each by a monitor of its own.
+/// Last looks at two publishers, each by its own monitor.
 pub fn last_looks(
     one: &Publisher,
     its: &mut Monitor,

@@ -28,10 +28,10 @@ enum Step<'a> {
 /// The values from which each table starts: their sum is 19 modulo 2^64.
 const FIRST: [u64; 2] = [u64::MAX, 20];
 
-/// The first batch: item 1 goes to 25.
+/// The first batch: item 1 becomes 25.
 const ONE: &[Row<'static>] = &[(0, 0, &[1], &[(1, Some(1), 5)])];
 
-/// The second batch: item 1 goes to item 0 and 3 more, which wraps to 2; then item 0 to item 1 and 1 more.
+/// The second batch: item 1 becomes item 0 plus 3, which wraps to 2; then item 0 becomes item 1 plus 1.
 const TWO: &[Row<'static>] = &[
     (1, 0, &[0], &[(1, Some(0), 3)]),
     (0, 1, &[1], &[(0, Some(1), 1)]),
@@ -59,7 +59,7 @@ fn keeps(monitor: &Monitor, told: &FrameRow, looks: u64) -> bool
         && monitor.looks() == looks
 }
 
-/// Makes the call; whether the monitor keeps what is told.
+/// Makes the call, and says whether the monitor keeps what is told.
 fn make_step<R: Wait>(
     wait: &R,
     alloc: Global,
@@ -83,7 +83,7 @@ fn make_step<R: Wait>(
     Ok(true)
 }
 
-/// The place of the first of the steps at which the monitor keeps something else than told.
+/// The place of the first of the steps at which the monitor keeps something other than told.
 fn walk<R: Wait>(
     wait: &R,
     alloc: Global,
@@ -103,7 +103,7 @@ fn walk<R: Wait>(
     Ok(None)
 }
 
-/// The place of the first of the steps at which the monitor of a new publisher keeps something else than told.
+/// The place of the first of the steps at which the monitor of a new publisher keeps something other than told.
 fn first_other<R: Wait>(
     wait: &R,
     alloc: Global,

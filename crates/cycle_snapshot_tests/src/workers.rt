@@ -29,7 +29,7 @@ fn is_published(monitor: &Monitor) -> bool
         && monitor.column(2) == [0, 0, 0].as_slice()
 }
 
-/// Looks until the monitor sees the cycle, and at most `most` times. It stops early after a look that failed, that went back, or
+/// Looks at most `most` times, until the monitor sees the cycle. It stops early after a look that failed, that went back, or
 /// that showed a frame of none of the beginnings: then the monitor keeps an earlier cycle, or that frame.
 fn watch(monitor: &mut Monitor, cycle: u32, most: u32)
     requires items { HasThree monitor.old }
@@ -47,7 +47,7 @@ fn watch(monitor: &mut Monitor, cycle: u32, most: u32)
     }
 }
 
-/// Lets all monitors look until they see the cycle, by four threads.
+/// Lets all monitors look until they see the cycle, on four threads.
 fn watch_all<R: Threads + Sync>(rt: &R, monitors: &mut [Monitor], cycle: u32)
     requires items { All HasThree monitors.old }
     ensures items { All HasThree monitors.new }
@@ -90,8 +90,8 @@ fn first_other(monitors: &[Monitor], batches: u32) -> Option<(usize, u32)>
     None
 }
 
-/// How many monitors there are beside a publisher of these batches, where this number is asked for; and the first of them that
-/// ends with another frame than that of all batches, if any.
+/// Runs a publisher of this many batches with this many monitors. Gives the number of monitors, and the first of them that ends
+/// with another frame than that of all batches, if any.
 fn monitors_beside<R: Threads + Wait + Sync>(
     rt: &R,
     alloc: Global,

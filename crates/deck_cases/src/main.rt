@@ -1,8 +1,7 @@
-//! Plays cases of decks as texts, of the parts that a deck gives, and of the texts of numbers and lists.
+//! Plays cases of decks as texts, of the parts of a deck, and of the texts of numbers and lists.
 //!
-//! `front` begins the text of each deck after it, and `repeat` goes on with it; `deck` reads that text with another at its end, and
-//! `drill` draws a deck from a seed and a size. What is asked for after that are parts of this deck. `number`, `list` and `push`
-//! have a text, and `write` has numbers.
+//! `front` begins the text of each deck after it, and `repeat` continues it. `deck` reads that text with another at its end, and `drill` draws a deck
+//! from a seed and a size. The questions after that are about parts of this deck. `number`, `list` and `push` take a text, and `write` takes numbers.
 #![tactic(auto)]
 
 mod questions;
@@ -15,7 +14,7 @@ use item_catalog::{Deck, DeckError, MOST_DRILL_SIZE, drill_deck, read_deck};
 use std::alloc::Global;
 use std::io;
 
-/// How the text of a deck begins, and the deck that was read last.
+/// The beginning of the text of a deck, and the deck that was read last.
 #[derive(Drop)]
 struct DeckPlayer {
     front: Vec<u8>,

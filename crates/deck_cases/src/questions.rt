@@ -1,7 +1,7 @@
-//! Cases that ask a deck for its parts: each answer is a line or some, and `missing` where the deck has no such part.
+//! Cases that ask a deck for its parts: each answer is one or more lines, and `missing` if the deck has no such part.
 //!
-//! `counts`, `replans` and `settings` ask for all at once; `item`, `disk`, `replan`, `updates`, `reader` and `event` have a number; `update` has the
-//! number of an updater and that of its update, and `query` that of a reader and that of its query.
+//! `counts`, `replans` and `settings` ask for all at once. `item`, `disk`, `replan`, `updates`, `reader` and `event` take a number. `update` takes
+//! the number of an updater and that of its update, and `query` that of a reader and that of its query.
 
 ghost use Rattle.std.specs.Prelude.{◌<◌, length};
 
@@ -10,7 +10,7 @@ use air_history::Update;
 use case_lines::{BadCase, Parts, add_items, add_line, add_writes};
 use item_catalog::Deck;
 
-/// The two numbers behind a word; 0 for those that it hasn't.
+/// The two numbers after a word; 0 for each that is missing.
 pub fn question(word: &[u8], parts: &mut Parts<'_>) -> (u64, u64) {
     match word {
         b"counts" | b"replans" | b"settings" => (0, 0),
@@ -23,7 +23,7 @@ pub fn question(word: &[u8], parts: &mut Parts<'_>) -> (u64, u64) {
     }
 }
 
-/// Answers a question to the deck.
+/// Answers a question about the deck.
 pub fn answer(
     deck: &Deck,
     word: &[u8],
@@ -54,7 +54,7 @@ pub fn answer(
     }
 }
 
-/// Adds how many there are of each part.
+/// Adds the number of each part.
 fn add_counts(deck: &Deck, came: &mut Vec<u8>) -> Result<(), NoMemory> {
     add_line(b"items", &[u64::from(deck.items())], came)?;
     add_line(b"disks", &[u64::from(deck.disks())], came)?;
@@ -93,7 +93,7 @@ fn add_replan(deck: &Deck, k: u32, came: &mut Vec<u8>) -> Result<(), NoMemory>
     Ok(())
 }
 
-/// Adds a reader's plan, and how many queries it has.
+/// Adds a reader's plan, and the number of its queries.
 fn add_reader(deck: &Deck, r: u32, came: &mut Vec<u8>) -> Result<(), NoMemory>
     requires { r < length deck.now.readers }
 {

@@ -1,4 +1,4 @@
-//! Cases of numbers and lists as texts, of what faults show, and of a list of texts.
+//! Cases of numbers and lists as texts, of the texts of faults, and of a list of texts.
 //!
 //! They are of calls of `air_base` alone, and of `Vec`.
 
@@ -6,7 +6,7 @@ use air_base::{ListFault, NoMemory, read_list, read_u64, write_u64};
 use case_lines::{BadCase, Parts, add_line};
 use std::alloc::Global;
 
-/// Tells the number that the text spells.
+/// Adds the number that the text spells.
 pub fn number(text: &[u8], came: &mut Vec<u8>) -> Result<(), NoMemory> {
     match read_u64(text) {
         Some(number) => add_line(b"is", &[number], came),
@@ -14,7 +14,7 @@ pub fn number(text: &[u8], came: &mut Vec<u8>) -> Result<(), NoMemory> {
     }
 }
 
-/// Tells the list that a text spells, or what its fault shows.
+/// Adds the list that a text spells, or the text of its fault.
 pub fn list(alloc: Global, parts: &mut Parts<'_>, came: &mut Vec<u8>) -> Result<(), NoMemory> {
     let text = parts.text(alloc)?;
     if text.len() >= 1000 {
@@ -36,7 +36,7 @@ pub fn write(numbers: &[u64], came: &mut Vec<u8>) -> Result<(), NoMemory> {
     Ok(())
 }
 
-/// Pushes the text to a list of texts, and tells what the list has then.
+/// Pushes the text to a list of texts, and adds what the list then has.
 pub fn push(alloc: Global, text: &[u8], came: &mut Vec<u8>) -> Result<(), NoMemory> {
     let mut texts = Vec::new(alloc);
     texts.push(Vec::from_slice(alloc, text)?)?;
@@ -47,7 +47,7 @@ pub fn push(alloc: Global, text: &[u8], came: &mut Vec<u8>) -> Result<(), NoMemo
     Ok(())
 }
 
-/// Shows the two faults that are out of memory.
+/// Adds the texts of the two faults for out of memory.
 pub fn memory(alloc: Global, came: &mut Vec<u8>) -> Result<(), NoMemory> {
     add_line(NoMemory.to_string(alloc)?.as_bytes(), &[], came)?;
     add_line(ListFault::NoMemory.to_string(alloc)?.as_bytes(), &[], came)

@@ -19,28 +19,28 @@ use Rattle.air_sender.proofs.AiredLemmas.{range_more}
 use Rattle.chunk_program.specs.Editions.{EditionDisks, edition_disks}
 use Rattle.deck_runs.proofs.SendLemmas.{count_bytes}
 use Rattle.deck_runs.proofs.SentLemmas.{sends_nothing}
-use Rattle.deck_runs.specs.Casts.{IsCastAnswer, IsCastPart, all_sent, first_sent}
+use Rattle.deck_runs.specs.Casts.{IsCastAnswer, IsCastBeginning, all_sent, first_sent}
 use Rattle.deck_runs.specs.Private.CastSteps.{bucket_count, buckets_up_to}
 
--- It had sent nothing, where that is told.
+-- It had sent nothing, if that is told.
 abbrev pub Unsent : Option SentBuckets → Type 0
 Unsent before = WhereTold before (λ s. s ≡ nothing_sent)
 
 -- ---- what was sent after the aim
 
--- The first of these buckets, behind nothing.
+-- Only the first of these buckets were sent.
 first_behind : (n : ℕ) (B : List (List ℕ)) (before mid now : Option SentBuckets) → Unsent before → mid ≡ before → Changes (with_buckets (take n B)) mid now → Changes (λ _. first_sent n B) before now
 first_behind n B None mid now unsent same h = tt
 first_behind n B (Some s) mid now unsent same h =
     let a : now ≡ Some (with_buckets (take n B) s) = subst (λ o. Changes (with_buckets (take n B)) o now) same h in
     a ∙ ap (λ x. Some (with_buckets (take n B) x)) unsent
 
--- None of them.
+-- None of these buckets was sent.
 nothing_more : (B : List (List ℕ)) (told : Option SentBuckets) → Changes (with_buckets (take 0 B)) told told
 nothing_more B None = tt
 nothing_more B (Some s) = ap (λ l. let t : SentBuckets = record s { buckets = l } in Some t) (sym (append-nil s.buckets))
 
--- All of them, before an end that failed.
+-- All of these buckets were sent, before an end that failed.
 all_behind : (n : ℕ) (B : List (List ℕ)) (before mid now last : Option SentBuckets) → n ≡ length B → Unsent before → mid ≡ before → Changes (with_buckets B) mid now → last ≡ now
     → Changes (λ _. first_sent n B) before last
 all_behind n B None mid now last e unsent same h kept = tt
@@ -48,7 +48,7 @@ all_behind n B (Some s) mid now last e unsent same h kept =
     let a : now ≡ Some (with_buckets B s) = subst (λ o. Changes (with_buckets B) o now) same h in
     kept ∙ a ∙ ap (λ x. Some (with_buckets B x)) unsent ∙ ap (λ l. let t : SentBuckets = record { buckets = l; ended = None } in Some t) (sym (take_all n B (omega arith)))
 
--- All of them, and then the end.
+-- All of these buckets were sent, and then the end.
 pub end_behind : (B : List (List ℕ)) (before mid now last : Option SentBuckets) → Unsent before → mid ≡ before → Changes (with_buckets B) mid now → Changes with_end now last
     → Changes (λ _. all_sent B) before last
 end_behind B None mid now last unsent same h ended = tt
@@ -59,7 +59,7 @@ end_behind B (Some s) mid now last unsent same h ended =
 
 -- ---- how many buckets there are
 
--- A whole history of a deck airs so many buckets.
+-- The number of buckets that a whole history of a deck airs.
 bytes_count : (deck : Deck) (H : List Event) → IsWhole deck H → length (deck_bytes deck H) ≡ bucket_count deck
 bytes_count deck H whole = count_bytes (values_in deck) (air_of deck) H ∙ ap (buckets_up_to deck) whole.cycles
 
@@ -75,8 +75,8 @@ buckets_more deck done slots p is count =
 
 -- ---- what a fault says
 
--- Before all buckets.
-pub none_cast : {M : Type 0} (state : M → MastState) (deck : Deck) (before now : M) → Unsent (state before).told → (state now).told ≡ (state before).told → IsCastPart deck 0 (state before).told (state now).told
+-- The mast failed before all buckets.
+pub none_cast : {M : Type 0} (state : M → MastState) (deck : Deck) (before now : M) → Unsent (state before).told → (state now).told ≡ (state before).told → IsCastBeginning deck 0 (state before).told (state now).told
 none_cast state deck before now unsent same =
     let h = sends_nothing state deck now in
     let first = nothing_more (deck_bytes deck h.history) (state now).told in
@@ -110,9 +110,9 @@ run_cast state deck before mid now fault.NoMemory unsent same calm h = (
   ),
 )
 
--- After all buckets.
+-- The mast failed after all buckets.
 pub all_cast : (deck : Deck) (H : List Event) (n : ℕ) (before mid now last : Option SentBuckets) → IsWhole deck H → n ≡ bucket_count deck → Unsent before → mid ≡ before
-    → Changes (with_buckets (deck_bytes deck H)) mid now → last ≡ now → IsCastPart deck n before last
+    → Changes (with_buckets (deck_bytes deck H)) mid now → last ≡ now → IsCastBeginning deck n before last
 all_cast deck H n before mid now last whole is unsent same sent kept =
     let count : n ≡ length (deck_bytes deck H) = is ∙ sym (bytes_count deck H whole) in
     record { history = H; whole = whole; within = omega arith; sent = all_behind n (deck_bytes deck H) before mid now last count unsent same sent kept }

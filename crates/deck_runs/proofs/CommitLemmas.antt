@@ -65,7 +65,7 @@ makes_none us p = record {
   made = sym (ap (λ l. made_by p.number p.seen ++ l) (no_commits p.number (count_made p.number p.seen) us) ∙ append-nil (made_by p.number p.seen));
 }
 
--- One more commit: before it the pass q had seen all of p's and so many commits, and before saw others' events.
+-- One more commit. Before it the pass q had seen all of p's events and made k commits; `before` continues what q had seen by others' events.
 module _ (us : List UpdateLists) (k : ℕ) (p q r : PassState) (before : List Event) (same : q.number ≡ p.number) (count : count_made p.number q.seen ≡ count_made p.number p.seen + k) (makes : Makes (take k us) p q) where
   pub makes_more : (u : UpdateLists) → k < length us → u ≡ get_or us k u → GoesOnWithout (is_by q.number) q.seen before
       → r.seen ≡ before ++ Commit q.number (count_made q.number q.seen) u ∷ [] → Makes (take (k + 1) us) p r × (count_made p.number r.seen ≡ count_made p.number p.seen + (k + 1))
@@ -85,7 +85,7 @@ module _ (us : List UpdateLists) (k : ℕ) (p q r : PassState) (before : List Ev
         (let mine = ap (count_made by) here ∙ made_own by (n + k) u before in let others = count_same by q.seen before g in omega arith),
       )
 
-  -- The commit had no memory.
+  -- The commit ran out of memory.
   pub makes_stop : k < length us → GoesOnWithout (is_by q.number) q.seen r.seen → MakesSome us p r
   makes_stop l goes =
       let by = p.number in

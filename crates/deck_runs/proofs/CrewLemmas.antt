@@ -14,7 +14,7 @@ use Rattle.std.specs.Prelude.{Some, slice_get}
 use Rattle.std.proofs.lemmas.Option.{slice_get-get_or}
 use Rattle.std.proofs.lemmas.List.{get_or-map, length-map}
 use Rattle.deck_runs.specs.declared.jobs.crews.UpdaterRun.{UpdaterRun}
-use Rattle.deck_runs.specs.Crews.{HasNewPass, passes_of}
+use Rattle.deck_runs.specs.Private.Crews.{HasNewPass, passes_of}
 use Rattle.deck_runs.specs.Commits.{Makes, MakesSome}
 
 part_of_sum : {A : Type 0} (xss : List (List A)) (k : ℕ) → length (get_or xss k []) ≤ sum_by length xss
@@ -26,7 +26,7 @@ part_of_sum (xs ∷ xss) (suc k) = let s = sum_by-cons length xs xss in let rest
 few_updates : (deck : Deck) (by : ℕ) → WithinLimits deck → length (updates_by deck by) < 4294967296
 few_updates deck by within = let part = part_of_sum deck.updates by in let most = within.updates in omega arith
 
--- They fit.
+-- The updates of a deck fit.
 pub updates_fit : (deck : Deck) (by : ℕ) (us : List UpdateLists) (values : List ℕ) → IsDeck deck → by < length deck.updates → us ≡ updates_by deck by → values ≡ values_in deck → All (UpdateFits (length values)) us
 updates_fit deck by us values made l is first =
     let sized : length values ≡ length deck.items = ap length first ∙ length-map deck.items (λ i. i.value) in
@@ -40,7 +40,7 @@ none_made by seen is = (ap (made_by by) is, ap (count_made by) is)
 pub few_at : (deck : Deck) (by : ℕ) (us : List UpdateLists) (seen : List Event) → WithinLimits deck → us ≡ updates_by deck by → seen ≡ [] → count_made by seen + length us < 4294967296
 few_at deck by us seen within is new = let few = few_updates deck by within in let same = ap length is in let none = (none_made by seen new).1 in omega arith
 
--- So after its job it made just these.
+-- So after its job it made exactly these.
 pub makes_from : (us vs : List UpdateLists) (p q : PassState) → p.seen ≡ [] → us ≡ vs → Makes us p q → made_by p.number q.seen ≡ commits_from p.number 0 vs
 makes_from us vs p q new is m =
     let none = none_made p.number p.seen new in

@@ -31,7 +31,7 @@ pub starts_one : starts (Start ∷ []) ≡ 1
 unfolding starts is_start
 starts_one = refl
 
--- Commits join what comes after the last start.
+-- Commits are added to what comes after the last start.
 since_quiet : (F o : List Event) → starts o ≡ 0 → since_start (F ++ o) ≡ since_start F ++ o
 unfolding is_start
 since_quiet F [] h = ap since_start (append-nil F) ∙ sym (append-nil (since_start F))
@@ -41,7 +41,7 @@ since_quiet F (Commit by seq u ∷ o) h =
     ap since_start (sym (append_assoc F (e ∷ []) o)) ∙ since_quiet (F ++ e ∷ []) o (let a = starts_head e o in omega arith)
     ∙ ap (λ l. l ++ o) (since_commit F by seq u) ∙ append_assoc (since_start F) (e ∷ []) o
 
--- What comes behind a list that ends at a start, and has none.
+-- What comes after a list that ends at a start, and has no start.
 since_ends : (E o : List Event) → EndsAtStart E → starts o ≡ 0 → since_start (E ++ o) ≡ o
 since_ends E o (inl none) h = since_quiet E o h ∙ ap (λ l. l ++ o) (ap since_start none ∙ since_none)
 since_ends E o (inr some) h = since_quiet E o h ∙ ap (λ l. l ++ o) (ap since_start some.1 ∙ since_new_start some.0)
@@ -52,7 +52,7 @@ no_starts seen later g = g.2
 
 -- ---- what is published of what was seen
 
--- Events of others come behind.
+-- Events of others come after it.
 pub up_to_on : (n : ℕ) (seen before : List Event) (bs : List (List Event)) → IsUpTo n seen bs → GoesOnWithout is_start seen before → IsUpTo n before bs
 up_to_on n seen before bs up g = let quiet = no_starts seen before g in record {
   later = up.later ++ g.0;
@@ -62,7 +62,7 @@ up_to_on n seen before bs up g = let quiet = no_starts seen before g in record {
   count = let a = ap starts g.1 ∙ starts_append seen g.0 in let b = up.count in omega arith;
 }
 
--- What is not published yet, where no start is behind, is what comes after the last start.
+-- If all starts are published, what is not published yet is what comes after the last start.
 pub up_to_since : (G : List Event) (bs : List (List Event)) (up : IsUpTo 0 G bs) → since_start G ≡ up.later
 up_to_since G bs up = ap since_start up.begins ∙ since_ends (batch_events bs) up.later up.ends up.rest
 
@@ -167,16 +167,16 @@ in_step p q f g b new fresh step on adds stepped is bases up =
 -- ---- the board of what was seen
 
 up_to_board : (p : PassState) (bs : List (List Event)) (b : Board) → IsUpTo 0 p.seen bs → b ≡ board_of p.values (batch_events bs) → IsBoardOf p b
-up_to_board p bs b up is = record { front = batch_events bs; later = up.later; begins = up.begins; ends = up.ends; rest = up.rest; board = is }
+up_to_board p bs b up is = record { beginning = batch_events bs; later = up.later; begins = up.begins; ends = up.ends; rest = up.rest; board = is }
 
 pub board_seen : (p : PassState) (f : PublisherState) (b : Board) → AreInStep p f b → IsBoardOf p b
 board_seen p f b step = up_to_board p f.batches b step.published step.board
 
--- Where no cycle was started the board is that of the list as before.
+-- If no cycle was started, the board is that of the list as before.
 pub board_kept : (p q : PassState) (f : PublisherState) (b : Board) → AreInStep p f b → GoesOn p q → IsUpTo 0 q.seen f.batches → IsBoardOf q b
 board_kept p q f b step on up = up_to_board q f.batches b up (step.board ∙ ap (λ v. board_of v (batch_events f.batches)) (sym (on_values p q on)))
 
--- Where its events weren't published the board has them.
+-- If its events weren't published, the board still has them.
 pub board_ahead : (p q : PassState) (f : PublisherState) (b new : Board) (fresh : List Event) → AreInStep p f b → GoesOn p q → new ≡ step_all b fresh → IsBatch (length p.values) fresh → All BasesRead fresh
     → IsUpTo 0 q.seen (f.batches ++ fresh ∷ []) → IsBoardOf q new
 board_ahead p q f b new fresh step on stepped is bases up =
@@ -186,11 +186,11 @@ board_ahead p q f b new fresh step on stepped is bases up =
 -- It is at the last start.
 pub board_at : (p : PassState) (b : Board) → IsBoardOf p b → b.cycle ≡ starts p.seen
 board_at p b is =
-    let both = ap starts is.begins ∙ starts_append is.front is.later in
+    let both = ap starts is.begins ∙ starts_append is.beginning is.later in
     let none = is.rest in
     ap (λ x. x.cycle) is.board ∙ omega arith
 
--- So many batches, and one start more or none.
+-- At most one start more than batches was seen.
 pub few_starts : (n : ℕ) (seen : List Event) (bs : List (List Event)) → length bs + 1 ≤ n → IsUpTo 0 seen bs ⊎ IsUpTo 1 seen bs → starts seen ≤ n
 few_starts n seen bs l (inl up) = let c = up.count in omega arith
 few_starts n seen bs l (inr up) = let c = up.count in omega arith
@@ -203,7 +203,7 @@ one_start seen now f g before adds after =
     let last = after.count in
     omega arith
 
--- What holds anyway holds at a fault.
+-- What holds in any case holds at a fault.
 pub at_fault : {T E : Type 0} (Q : Type 0) (r : Result T E) → Q → OnErr r Q
 at_fault Q (Ok x) h = tt
 at_fault Q (Err e) h = h

@@ -11,7 +11,7 @@ use Rattle.air_model.specs.Decks.{Deck, IsWhole, is_by, updates_by, values_in}
 use Rattle.air_model.specs.DeckLaws.{commits_from, made_by}
 use Rattle.station.specs.PassStates.{PassState, new_pass, with_seen}
 use Rattle.deck_runs.specs.declared.jobs.crews.UpdaterRun.{UpdaterRun}
-use Rattle.deck_runs.specs.Crews.{passes_of}
+use Rattle.deck_runs.specs.Private.Crews.{passes_of}
 use Rattle.air_model.specs.RunClosings.{HaveMadeAll, HaveMadeSome, IsClosing}
 use Rattle.air_model.proofs.ClosingLemmas.{closing_starts, legal_closing, whole_closing}
 use Rattle.air_model.proofs.BeyondLemmas.{whole_beyond}

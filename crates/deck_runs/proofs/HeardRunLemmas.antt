@@ -43,7 +43,7 @@ run_airs deck run made within short is = record {
   slots = slots_short deck short;
 }
 
--- The law that `one_history_law` has.
+-- The statement of `one_history_law`.
 abbrev pub OneHistoryLaw : Type 0
 OneHistoryLaw = (deck : Deck) (r s : Report) → WithinLimits deck → IsLegal deck r.history → IsLegal deck s.history → report_text r ≡ report_text s → r.history ≡ s.history
 
@@ -72,7 +72,7 @@ run_sum deck =
     history_size (values_in deck) (air_of deck) (replicate deck.settings.cycles Start)
     ∙ ap (tape_size deck.settings.version (length deck.items) (slots_at (air_of deck))) (all_started deck.settings.cycles)
 
--- Without replans each cycle has the bytes of the first.
+-- Without replans each cycle has the length of the first.
 pub run_size : (deck : Deck) → deck.replans ≡ [] → run_tape_len deck ≡ deck.settings.cycles * cycle_size deck.settings.version (length deck.items) (program (disks_in deck 0))
 unfolding run_tape_len
 run_size deck none = plain_size deck none (replicate deck.settings.cycles Start) ∙ ap (λ n. n * cycle_size deck.settings.version (length deck.items) (program (disks_in deck 0))) (all_started deck.settings.cycles)

@@ -14,7 +14,7 @@ use Rattle.deck_runs.specs.PublishedBatches.{IsUpTo}
 use Rattle.air_history.specs.Boards.{frame_of}
 use Rattle.air_history.specs.declared.histories.Event.{Event}
 use Rattle.cycle_snapshot.specs.Batches.{IsBatch, batch_events}
-use Rattle.deck_runs.specs.Looks.{IsLookLineOf, LookedTimes, ShowsFront}
+use Rattle.deck_runs.specs.Looks.{IsLookLineOf, LookedTimes, ShowsBeginning}
 
 pub looked_none : (m : MonitorState) → m.looks < 18446744073709551616 → LookedTimes 0 m m
 looked_none m l = record {
@@ -59,10 +59,10 @@ batches_end n (b ∷ bs) all = step (batch_events bs) (batches_end n bs (All-tai
     step E (inr some) = inr (b ++ some.0, ap (λ l. b ++ l) some.1 ∙ sym (append_assoc b some.0 (Start ∷ [])))
 
 -- A frame of the first of all batches.
-front_shown : (values : List ℕ) (conductor : List Event) (all seen : List (List Event)) (n : MonitorState) (line : LookLine) → IsUpTo 0 conductor all → IsPrefix seen all → All (IsBatch (length values)) seen
-    → n.kept ≡ frame_of values (batch_events seen) → IsLookLineOf n line → ShowsFront values conductor line
-front_shown values conductor all seen n line up pre batches kept is = record {
-  front = batch_events seen;
+beginning_shown : (values : List ℕ) (conductor : List Event) (all seen : List (List Event)) (n : MonitorState) (line : LookLine) → IsUpTo 0 conductor all → IsPrefix seen all → All (IsBatch (length values)) seen
+    → n.kept ≡ frame_of values (batch_events seen) → IsLookLineOf n line → ShowsBeginning values conductor line
+beginning_shown values conductor all seen n line up pre batches kept is = record {
+  beginning = batch_events seen;
   later = batch_events pre.0 ++ up.later;
   begins = up.begins ∙ ap (λ l. l ++ up.later) (ap batch_events (sym pre.1) ∙ events_both seen pre.0) ∙ append_assoc (batch_events seen) (batch_events pre.0) up.later;
   ends = batches_end (length values) seen batches;
@@ -71,14 +71,14 @@ front_shown values conductor all seen n line up pre batches kept is = record {
 }
 
 pub shows : (conductor : List Event) (all told : List (List Event)) (times : ℕ) (m n o : MonitorState) (glance look : LookLine) → IsUpTo 0 conductor all → length all ≡ m.most → 1 ≤ times → LookedTimes times m n → IsLookLineOf n glance
-    → IsPrefix all told → HasLooked (record n { told = told }) o → IsLookLineOf o look → ShowsFront m.values conductor glance × ShowsFront m.values conductor look × (look.cycle ≡ starts conductor)
+    → IsPrefix all told → HasLooked (record n { told = told }) o → IsLookLineOf o look → ShowsBeginning m.values conductor glance × ShowsBeginning m.values conductor look × (look.cycle ≡ starts conductor)
 shows conductor all told times m n o glance look up full some t g pre l s =
     let values : n.values ≡ m.values = ap (λ x. x.values) t.same in
     let most : n.most ≡ m.most = ap (λ x. x.most) t.same in
     let whole : all ≡ o.seen = prefix_whole all o.seen (prefix_trans all told o.seen pre l.told) (let few = l.few in omega arith) in
     let kept : o.kept ≡ frame_of m.values (batch_events all) = l.kept ∙ (λ i. frame_of (values i) (batch_events (sym whole i))) in
     let batches : All (IsBatch (length m.values)) all = subst (All (IsBatch (length m.values))) (sym whole) (subst (λ (v : List ℕ). All (IsBatch (length v)) o.seen) values l.batches) in (
-      front_shown m.values conductor all n.seen n glance up (subst (IsPrefix n.seen) (sym whole) l.seen) (t.batches (omega arith)) (t.kept (omega arith)) g,
-      front_shown m.values conductor all all o look up (prefix_self all) batches kept s,
+      beginning_shown m.values conductor all n.seen n glance up (subst (IsPrefix n.seen) (sym whole) l.seen) (t.batches (omega arith)) (t.kept (omega arith)) g,
+      beginning_shown m.values conductor all all o look up (prefix_self all) batches kept s,
       s.cycle ∙ ap (λ f. f.cycle) kept ∙ (let a = ap starts up.begins ∙ starts_append (batch_events all) up.later in let z = up.rest in omega arith),
     )

@@ -1,4 +1,4 @@
--- A run of a small deck, what is true of it, what is cast of one, and what jobs leave: where each relation holds, and where it doesn't.
+-- A run of a small deck, what is true of it, what is cast of one, and what jobs leave: positive and negative examples of each relation.
 use Rattle.std.proofs.Common.{◌≡◌, ◌<◌, ◌≤◌, ℕ, zero, suc, false, Option, Some, None, List, [], ◌∷◌, ◌++◌, length, map, All, Contains, inr, refl, sym, ap, ◌∙◌, arith}
 use Rattle.std.specs.Prelude.{slice_get}
 use Rattle.std.specs.List.{flat_map, range_with_len}
@@ -31,7 +31,7 @@ use Rattle.air_sender.specs.BoardBuckets.{form_of}
 use Rattle.chunk_program.specs.Editions.{plans_in}
 use Rattle.chunk_program.specs.Plans.{AreShort}
 use Rattle.station.specs.PassStates.{PassState}
-use Rattle.deck_runs.specs.Casts.{IsCastPart, all_sent, first_sent}
+use Rattle.deck_runs.specs.Casts.{IsCastBeginning, all_sent, first_sent}
 use Rattle.deck_runs.specs.DeckBytes.{deck_bytes}
 use Rattle.deck_runs.specs.Looks.{LookedTimes}
 use Rattle.deck_runs.specs.PublishedBatches.{IsBoardOf}
@@ -44,7 +44,7 @@ use Rattle.deck_runs.proofs.CycleLemmas.{board_at, starts_one}
 use Rattle.deck_runs.proofs.HeardRunLemmas.{OneHistoryLaw, run_size, run_sum, true_run}
 use Rattle.deck_runs.proofs.RunLemmas.{own_air}
 
--- Two items, a reader of one query, no updates; so many cycles.
+-- Two items, a reader of one query, no updates; a given number of cycles.
 abbrev of_cycles : ℕ → Deck
 of_cycles cycles = record pair { settings = record pair.settings { cycles = cycles } }
 
@@ -93,7 +93,7 @@ is_within = record {
   };
 }
 
--- Histories of starts alone.
+-- Histories that have only starts.
 abbrev one_start : List Event
 one_start = Start ∷ []
 
@@ -112,7 +112,7 @@ one_whole : IsWhole (of_cycles 1) one_start
 unfolding is_by is_start starts
 one_whole = record { legal = λ p by seq update e. absurd (no_commit p by seq update e); all = none_made; cycles = refl }
 
--- It isn't whole where the deck has two cycles.
+-- It isn't whole if the deck has two cycles.
 not_whole : IsWhole (of_cycles 2) one_start → ⊥
 unfolding is_start starts
 not_whole h = let cycles : 1 ≡ 2 = h.cycles in omega (arith, cycles)
@@ -149,7 +149,7 @@ on_unread = record { item = 0; base = Some 1; minus = false; amount = 1 }
 abbrev unread : Event
 unread = Commit 0 0 (record { reads = []; writes = on_unread ∷ [] })
 
--- No run that made it is true.
+-- No run with it is true.
 not_true : IsTrueRun pair (record { history = unread ∷ []; batches = []; glances = []; looks = [] }) → ⊥
 unfolding BasesRead
 not_true h = none (h.bases 0 unread (omega arith) 0 on_unread (omega arith))
@@ -157,7 +157,7 @@ not_true h = none (h.bases 0 unread (omega arith) 0 on_unread (omega arith))
     none : Contains {X = ℕ} [] 1 → ⊥
     none (k, within, is) = omega (arith, within)
 
--- ---- what a text tells
+-- ---- what a text determines
 
 -- The report of a history alone.
 abbrev of_history : List Event → Report
@@ -166,7 +166,7 @@ of_history H = record { history = H; verdicts = []; counts = []; glances = []; l
 tells : OneHistoryLaw → TellsHistory (of_cycles 1) one_start (report_text (of_history one_start))
 tells one_history report legal same = one_history (of_cycles 1) report (of_history one_start) is_within legal one_whole.legal same
 
--- The text of one start, which is legal for a deck of ten cycles and not whole, tells no history of two.
+-- The text of one start, which is legal for a deck of ten cycles and not whole, isn't that of a history of two.
 not_tells : TellsHistory pair two_starts (report_text (of_history one_start)) → ⊥
 not_tells h =
     let same : one_start ≡ two_starts = h (of_history one_start) (λ p by seq update e. absurd (no_commit p by seq update e)) refl in
@@ -191,7 +191,7 @@ long deck counted = record { counted = sym counted; above = omega arith }
 at_the_most : (deck : Deck) → IsLongRun deck 1073741824 → ⊥
 at_the_most deck h = let above : 1073741824 < 1073741824 = h.above in omega arith
 
--- Three items on one disk in three slots, and from cycle 2 on on two disks in four; so many cycles.
+-- Three items on one disk in three slots, and from cycle 2 on on two disks in four; a given number of cycles.
 abbrev changing : ℕ → Deck
 changing cycles = record (of_cycles cycles) {
   items = item 10 3 ∷ item 20 2 ∷ item 30 1 ∷ [];
@@ -199,7 +199,7 @@ changing cycles = record (of_cycles cycles) {
   replans = record { cycle = 2; disks = record { size = 1; freq = 2 } ∷ record { size = 2; freq = 1 } ∷ [] } ∷ [];
 }
 
--- Each bucket has 40 bytes on the tape; a replan after the cycles that are aired adds none.
+-- Each bucket has 40 bytes on the tape; a replan after the aired cycles adds none.
 changing_bytes : (run_tape_len (changing 0) ≡ 0) × (run_tape_len (changing 1) ≡ 120) × (run_tape_len (changing 3) ≡ 440)
 unfolding order order_with cut program least_common_multiple num_minors num_chunks chunk_len chunk minor_cycle
 changing_bytes = (run_sum (changing 0), run_sum (changing 1), run_sum (changing 3))
@@ -235,7 +235,7 @@ none_whole = record { legal = λ p by seq update e. absurd (nothing p e); all = 
     nothing : {e : Event} (p : ℕ) → slice_get [] p ≡ Some e → ⊥
     nothing p e = cc
 
-cast_part : IsCastPart (of_cycles 0) 0 (Some nothing_sent) (Some nothing_sent)
+cast_part : IsCastBeginning (of_cycles 0) 0 (Some nothing_sent) (Some nothing_sent)
 cast_part = record { history = []; whole = none_whole; within = omega arith; sent = refl }
 
 -- The end that a mast tells.
@@ -243,8 +243,8 @@ abbrev end_told : Option SentBuckets → Option ℕ
 end_told None = None
 end_told (Some s) = s.ended
 
--- Of a deck without cycles no bucket is sent; and an end is no part.
-not_cast_part : (IsCastPart (of_cycles 0) 1 (Some nothing_sent) (Some nothing_sent) → ⊥) × (IsCastPart (of_cycles 0) 0 (Some nothing_sent) (Some (all_sent [])) → ⊥)
+-- No bucket of a deck without cycles is sent; and an end is no part.
+not_cast_part : (IsCastBeginning (of_cycles 0) 1 (Some nothing_sent) (Some nothing_sent) → ⊥) × (IsCastBeginning (of_cycles 0) 0 (Some nothing_sent) (Some (all_sent [])) → ⊥)
 not_cast_part = (
   λ h. let none = no_bucket (of_cycles 0) h.history h.whole.cycles in omega (arith, none, h.within),
   λ h. let ended : ◌≡◌ {A = Option ℕ} (Some 0) None = ap end_told h.sent in cc,
@@ -252,9 +252,9 @@ not_cast_part = (
 
 -- ---- jobs
 
--- The board of one start is that of a pass that has seen it; that of before it isn't.
+-- The board of one start is that of a pass that has seen it; the board before it isn't.
 board_kept_up : (p : PassState) → p.seen ≡ one_start → IsBoardOf p (board_of p.values one_start)
-board_kept_up p seen = record { front = one_start; later = []; begins = seen; ends = inr ([], refl); rest = starts_none; board = refl }
+board_kept_up p seen = record { beginning = one_start; later = []; begins = seen; ends = inr ([], refl); rest = starts_none; board = refl }
 
 not_board : (p : PassState) → p.seen ≡ one_start → IsBoardOf p (board_of p.values []) → ⊥
 not_board p seen h =
@@ -270,7 +270,7 @@ not_looked m n batch told seen h = none (h.told (omega arith))
     none : IsPrefix m.told n.seen → ⊥
     none (rest, is) = let whole : (batch ∷ []) ++ rest ≡ [] = sym (ap (λ l. l ++ rest) told) ∙ is ∙ seen in cc
 
--- After all of no cycles memory can't run out any more.
+-- After all of no cycles the job can't run out of memory any more.
 not_sent : {M : Type 0} (state : M → MastState) (p q : PassState) (f g : PublisherState) (before now : M)
     → SendsUpTo state (values_in pair) (air_of pair) 0 p q f g before now fault.NoMemory → ⊥
 not_sent state p q f g before now h = omega (arith, h.1)

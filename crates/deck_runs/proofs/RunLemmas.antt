@@ -25,7 +25,7 @@ use Rattle.air_model.proofs.EditionLemmas.{edition_is, edition_within, slots_are
 use Rattle.chunk_program.specs.Editions.{EditionDisks, HaveItems, Plans, edition_disks, no_disks, plans_in, programs_in}
 use Rattle.chunk_program.proofs.EditionSteps.{edition_of, slots_of_cycle}
 use Rattle.deck_runs.specs.PublishedBatches.{AreInStep, IsUpTo, PublishesOn}
-use Rattle.deck_runs.specs.Sendings.{CanAirIn, FailsAfter, IsAirOf, SendsCycles, SendsPart, SendsUpTo, bytes_aired, planned_program}
+use Rattle.deck_runs.specs.Sendings.{CanAirIn, FailsAfter, IsAirOf, SendsCycles, SendsUntilFault, SendsUpTo, bytes_aired, planned_program}
 use Rattle.deck_runs.specs.declared.jobs.conductors.ConductFault.{ConductFault}
 use Rattle.deck_runs.specs.declared.jobs.conductors.ConductFault.TheVariants as fault
 
@@ -63,14 +63,14 @@ own_air deck plans values form are first own = record {
   slots_are = λ c. slots_are deck c ∙ sym (slots_of_cycle deck plans c are);
 }
 
--- It has no more items than a bucket of its version, and so no more than any bucket.
+-- A deck has no more items than a bucket of its version, and so no more than any bucket.
 pub few_items : (deck : Deck) → IsDeck deck → length deck.items ≤ 1024
 few_items deck made = elim made.version as (λ _. length deck.items ≤ 1024) [
   | inl one ↦ (let few : length deck.items ≤ 256 = subst (λ v. length deck.items ≤ most_count v) one made.most in omega arith)
   | inr two ↦ subst (λ v. length deck.items ≤ most_count v) two made.most
 ]
 
--- And its buckets can be made in its form.
+-- The buckets of a deck can be made in its form.
 pub can_air : (deck : Deck) (form : Form) (values : List ℕ) (plans : Plans) (room : ℕ) → IsDeck deck → form ≡ form_of (air_of deck) → length values ≡ length deck.items → plans ≡ plans_in deck
     → HaveItems (length deck.items) (programs_in deck) → HEAD_BYTES + entry_len deck.settings.version * length deck.items ≤ room → CanAirIn form values plans room
 can_air deck form values plans room made own sized are items space =
@@ -126,7 +126,7 @@ run_few p q g b n cycles (Err e) new same h k = let none = ap starts new ∙ sta
 module _ {M : Type 0} (state : M → MastState) (deck : Deck) (p q : PassState) (f g : PublisherState) (n : ℕ) (before now : M) (values : p.values ≡ values_in deck) (new : p.seen ≡ []) (none : f.batches ≡ []) where
   pub run_aired : (r : Result (Unit {0}) ConductFault)
       → MatchResult r (λ _. SendsCycles p.values (air_of deck) n p.seen q.seen (state before).told (state now).told) (SendsUpTo state p.values (air_of deck) n p q f g before now)
-      → MatchResult r (λ _. Changes (with_buckets (bytes_aired (values_in deck) (air_of deck) q.seen)) (state before).told (state now).told) (SendsPart state deck q.seen g.batches before now)
+      → MatchResult r (λ _. Changes (with_buckets (bytes_aired (values_in deck) (air_of deck) q.seen)) (state before).told (state now).told) (SendsUntilFault state deck q.seen g.batches before now)
   run_aired (Ok x) h = subst (λ v. Changes (with_buckets (bytes_aired v (air_of deck) q.seen)) (state before).told (state now).told) values (all_sent p.values (air_of deck) p.seen q.seen new n (state before).told (state now).told h)
   run_aired (Err (fault.Mast sent)) h = subst (λ v. FailedAt state sent (bytes_aired v (air_of deck) q.seen) before now) values (part_sent p.values (air_of deck) p.seen q.seen new state sent before now h)
   run_aired (Err fault.NoMemory) h = subst (λ v. Changes (with_buckets (bytes_aired v (air_of deck) (batch_events g.batches))) (state before).told (state now).told) values

@@ -52,19 +52,19 @@ start_buckets : (values : List ℕ) (air : Air) (G : List Event) → buckets_of 
 unfolding is_start
 start_buckets values air G = grow values air G Start
 
--- The list before the start of a batch that comes behind the others.
-abbrev pub front_of : (n : ℕ) (bs : List (List Event)) (batch : List Event) → IsBatch n batch → List Event
-front_of n bs batch is = batch_events bs ++ is.ends.0
+-- The list before the start of a batch that comes after the others.
+abbrev pub beginning_of : (n : ℕ) (bs : List (List Event)) (batch : List Event) → IsBatch n batch → List Event
+beginning_of n bs batch is = batch_events bs ++ is.ends.0
 
-pub front_starts : (n : ℕ) (bs : List (List Event)) (batch : List Event) (is : IsBatch n batch) → batch_events (bs ++ batch ∷ []) ≡ front_of n bs batch is ++ Start ∷ []
-front_starts n bs batch is = events_more bs batch ∙ ap (λ l. batch_events bs ++ l) is.ends.1 ∙ sym (append_assoc (batch_events bs) is.ends.0 (Start ∷ []))
+pub beginning_starts : (n : ℕ) (bs : List (List Event)) (batch : List Event) (is : IsBatch n batch) → batch_events (bs ++ batch ∷ []) ≡ beginning_of n bs batch is ++ Start ∷ []
+beginning_starts n bs batch is = events_more bs batch ∙ ap (λ l. batch_events bs ++ l) is.ends.1 ∙ sym (append_assoc (batch_events bs) is.ends.0 (Start ∷ []))
 
 -- One batch more airs its cycle.
 pub batch_bytes : (values : List ℕ) (air : Air) (n : ℕ) (bs : List (List Event)) (batch : List Event) (is : IsBatch n batch) →
-    bytes_aired values air (batch_events (bs ++ batch ∷ [])) ≡ bytes_aired values air (batch_events bs) ++ last_bytes values air (front_of n bs batch is)
+    bytes_aired values air (batch_events (bs ++ batch ∷ [])) ≡ bytes_aired values air (batch_events bs) ++ last_bytes values air (beginning_of n bs batch is)
 batch_bytes values air n bs batch is =
-    let G = front_of n bs batch is in
-    ap (bytes_aired values air) (front_starts n bs batch is) ∙ ap (map spelling) (start_buckets values air G ∙ ap (λ l. l ++ last_cycle_buckets values air (G ++ Start ∷ [])) (quiet_buckets values air (batch_events bs) is.ends.0 is.ends.2))
+    let G = beginning_of n bs batch is in
+    ap (bytes_aired values air) (beginning_starts n bs batch is) ∙ ap (map spelling) (start_buckets values air G ∙ ap (λ l. l ++ last_cycle_buckets values air (G ++ Start ∷ [])) (quiet_buckets values air (batch_events bs) is.ends.0 is.ends.2))
     ∙ map-append spelling (buckets_of values air (batch_events bs)) (last_cycle_buckets values air (G ++ Start ∷ []))
 
 pub length_last : (values : List ℕ) (air : Air) (G : List Event) → length (last_bytes values air G) ≡ length (slots_at air (starts (G ++ Start ∷ [])))
@@ -72,11 +72,11 @@ length_last values air G =
     let c = starts (G ++ Start ∷ []) in
     length-map (last_cycle_buckets values air (G ++ Start ∷ [])) spelling ∙ length-map-range_with_len (bucket_of values air (G ++ Start ∷ []) air.version c) 0 (length (slots_at air c))
 
--- What is published airs all that was seen, where no start is behind.
+-- What is published airs all that was seen, if all starts are published.
 pub seen_bytes : (values : List ℕ) (air : Air) (seen : List Event) (bs : List (List Event)) → IsUpTo 0 seen bs → bytes_aired values air seen ≡ bytes_aired values air (batch_events bs)
 seen_bytes values air seen bs up = ap (bytes_aired values air) up.begins ∙ ap (map spelling) (quiet_buckets values air (batch_events bs) up.later up.rest)
 
--- And it starts as many cycles.
+-- What is published starts as many cycles.
 pub seen_starts : (seen : List Event) (bs : List (List Event)) → IsUpTo 0 seen bs → starts seen ≡ starts (batch_events bs)
 seen_starts seen bs up = let none = up.rest in let both = ap starts up.begins ∙ starts_append (batch_events bs) up.later in omega arith
 
@@ -132,7 +132,7 @@ module _ (values : List ℕ) (air : Air) where
     counted = (let both = length-append a.sends.more b.sends.more in let first = a.counted in let next = b.counted in omega arith);
   }
 
-  -- The lists may be told otherwise, where they start and air the same.
+  -- G and H may be replaced by lists that air the same and start as many cycles.
   pub sends_as : (n : ℕ) (G H K L : List Event) (o q : Option SentBuckets) → bytes_aired values air K ≡ bytes_aired values air G → bytes_aired values air L ≡ bytes_aired values air H → starts K ≡ starts G → starts L ≡ starts H
       → SendsCycles values air n G H o q → SendsCycles values air n K L o q
   sends_as n G H K L o q same too early late s = record { more = s.more; aired = too ∙ s.aired ∙ ap (λ l. l ++ s.more) (sym same); started = late ∙ s.started ∙ ap (λ m. m + n) (sym early); sent = s.sent }
@@ -141,7 +141,7 @@ module _ (values : List ℕ) (air : Air) where
       → FailsAfter state values air n G H o q → FailsAfter state values air n K L o q
   fails_as state n G H K L o q same too s = record { more = s.more; aired = too ∙ s.aired ∙ ap (λ l. l ++ s.more) (sym same); failed = s.failed }
 
-  -- After cycles of so many buckets the mast failed.
+  -- The mast failed after cycles of n buckets.
   pub fails_further : {M : Type 0} (state : M → MastState) (k s n : ℕ) (G H K : List Event) (o p q : M) → SendsCounted values air k n G H (state o).told (state p).told → (state p).faults ≡ (state o).faults → (state p).port ≡ (state o).port
       → FailsAfter state values air s H K p q → FailsAfter state values air (n + s) G K o q
   fails_further state k s n G H K o p q before calm port b =
@@ -155,7 +155,7 @@ module _ (values : List ℕ) (air : Air) where
         failed = record {
           within = let l = length-append a.more b.more in let w = f.within in omega arith;
           just_before = j;
-          sent = subst (λ l. Changes (with_buckets l) (state o).told (state j).told) (front a.more b.more n s count) (changes_more a.more (take s b.more) (state o).told (state p).told (state j).told a.sent f.sent);
+          sent = subst (λ l. Changes (with_buckets l) (state o).told (state j).told) (beginning a.more b.more n s count) (changes_more a.more (take s b.more) (state o).told (state p).told (state j).told a.sent f.sent);
           calm = f.calm ∙ calm;
           port = f.port ∙ port;
           rose = f.rose;
@@ -163,12 +163,12 @@ module _ (values : List ℕ) (air : Air) where
         };
       }
     where
-      front : (xs ys : List (List ℕ)) (m s : ℕ) → length xs ≡ m → xs ++ take s ys ≡ take (m + s) (xs ++ ys)
-      front [] ys m s e = let same : s ≡ m + s = omega arith in ap (λ n. take n ys) same
-      front (x ∷ xs) ys zero s e = absurd (omega arith)
-      front (x ∷ xs) ys (suc m) s e = let same : suc (m + s) ≡ suc m + s = omega arith in ap (λ l. x ∷ l) (front xs ys m s (omega arith)) ∙ ap (λ n. take n (x ∷ xs ++ ys)) same
+      beginning : (xs ys : List (List ℕ)) (m s : ℕ) → length xs ≡ m → xs ++ take s ys ≡ take (m + s) (xs ++ ys)
+      beginning [] ys m s e = let same : s ≡ m + s = omega arith in ap (λ n. take n ys) same
+      beginning (x ∷ xs) ys zero s e = absurd (omega arith)
+      beginning (x ∷ xs) ys (suc m) s e = let same : suc (m + s) ≡ suc m + s = omega arith in ap (λ l. x ∷ l) (beginning xs ys m s (omega arith)) ∙ ap (λ n. take n (x ∷ xs ++ ys)) same
 
-  -- After whole cycles of so many buckets a cycle's fault ends the job.
+  -- After whole cycles of n buckets, the fault of a cycle ends the job.
   pub ends_by : {M : Type 0} (state : M → MastState) (fault : ConductFault) (k cycles n : ℕ) → k < cycles → (p q : PassState) (f g h : PublisherState) (o m r : M)
       → SendsCounted values air k n (batch_events f.batches) (batch_events g.batches) (state o).told (state m).told → (state m).faults ≡ (state o).faults → (state m).port ≡ (state o).port → IsUpTo 0 p.seen f.batches → IsPublishedUpTo q.seen h.batches fault
       → SendsInCycle state values air n (batch_events g.batches) (batch_events h.batches) m r fault → SendsUpTo state values air cycles p q f h o r fault
@@ -186,68 +186,68 @@ module _ (values : List ℕ) (air : Air) where
 
 -- ---- one cycle
 
--- The pass went on from p to q, the publisher from f to g by one batch, and the board is that of what is published then.
+-- The pass p became q, the publisher f became g by one batch, and the board is that of what is published then.
 module _ (p q : PassState) (f g : PublisherState) (b : Board) (on : GoesOn p q) (step : AreInStep q g b) (adds : AddsBatch f g) where
-  abbrev pub front : List Event
-  front = front_of (length f.values) f.batches adds.0 adds.2
+  abbrev pub beginning : List Event
+  beginning = beginning_of (length f.values) f.batches adds.0 adds.2
 
   batches : g.batches ≡ f.batches ++ adds.0 ∷ []
   batches = ap (λ x. x.batches) adds.1
 
-  pub ends : batch_events g.batches ≡ front ++ Start ∷ []
-  ends = ap batch_events batches ∙ front_starts (length f.values) f.batches adds.0 adds.2
+  pub ends : batch_events g.batches ≡ beginning ++ Start ∷ []
+  ends = ap batch_events batches ∙ beginning_starts (length f.values) f.batches adds.0 adds.2
 
-  pub last : b ≡ board_of p.values (front ++ Start ∷ [])
+  pub last : b ≡ board_of p.values (beginning ++ Start ∷ [])
   last = step.board ∙ ap (λ (x : PassState). board_of x.values (batch_events g.batches)) on.same ∙ ap (board_of p.values) ends
 
   pub started : 1 ≤ b.cycle
-  started = let c = ap (λ x. x.cycle) last in let a = starts_append front (Start ∷ []) in let one = starts_one in omega arith
+  started = let c = ap (λ x. x.cycle) last in let a = starts_append beginning (Start ∷ []) in let one = starts_one in omega arith
 
   -- the plans have this program in force in the board's cycle
   module _ (air : Air) (form : Form) (plans : Plans) (own : EditionDisks) (is : IsAirOf p.values form plans air) (at : slice_get plans.programs (planned_edition plans b.cycle) ≡ Some own) where
-    in_force : planned_program plans (starts (front ++ Start ∷ [])) ≡ own
+    in_force : planned_program plans (starts (beginning ++ Start ∷ [])) ≡ own
     in_force =
-        let now : b.cycle ≡ starts (front ++ Start ∷ []) = ap (λ x. x.cycle) last in
+        let now : b.cycle ≡ starts (beginning ++ Start ∷ []) = ap (λ x. x.cycle) last in
         ap (planned_program plans) (sym now) ∙ get_or_from_slice_get plans.programs (planned_edition plans b.cycle) own no_disks at
 
-    own_slots : slots_at air (starts (front ++ Start ∷ [])) ≡ program own.disks
-    own_slots = is.slots_are (starts (front ++ Start ∷ [])) ∙ ap (λ (x : EditionDisks). program x.disks) in_force
+    own_slots : slots_at air (starts (beginning ++ Start ∷ [])) ≡ program own.disks
+    own_slots = is.slots_are (starts (beginning ++ Start ∷ [])) ∙ ap (λ (x : EditionDisks). program x.disks) in_force
 
-    pub last_board : IsLastBoard p.values air front form own.edition (program own.disks) b
+    pub last_board : IsLastBoard p.values air beginning form own.edition (program own.disks) b
     last_board = record {
       board = last;
       items = is.items;
       policy = is.policy_is;
       version = is.version_is;
-      edition = is.edition_is (starts (front ++ Start ∷ [])) ∙ ap (λ (x : EditionDisks). x.edition) in_force;
+      edition = is.edition_is (starts (beginning ++ Start ∷ [])) ∙ ap (λ (x : EditionDisks). x.edition) in_force;
       slots = own_slots;
     }
 
-    bytes : bytes_aired p.values air (batch_events g.batches) ≡ bytes_aired p.values air (batch_events f.batches) ++ last_bytes p.values air front
+    bytes : bytes_aired p.values air (batch_events g.batches) ≡ bytes_aired p.values air (batch_events f.batches) ++ last_bytes p.values air beginning
     bytes = ap (λ bs. bytes_aired p.values air (batch_events bs)) batches ∙ batch_bytes p.values air (length f.values) f.batches adds.0 adds.2
 
     -- all of its buckets were sent
-    pub cycle_sent : (n : ℕ) (o q : Option SentBuckets) → n ≡ length (program own.disks) → Changes (with_buckets (last_bytes p.values air front)) o q → SendsCounted p.values air 1 n (batch_events f.batches) (batch_events g.batches) o q
+    pub cycle_sent : (n : ℕ) (o q : Option SentBuckets) → n ≡ length (program own.disks) → Changes (with_buckets (last_bytes p.values air beginning)) o q → SendsCounted p.values air 1 n (batch_events f.batches) (batch_events g.batches) o q
     cycle_sent n o q count sent = record {
       sends = record {
-        more = last_bytes p.values air front;
+        more = last_bytes p.values air beginning;
         aired = bytes;
-        started = (let all = ap starts ends ∙ starts_append front (Start ∷ []) in let before = starts_append (batch_events f.batches) adds.2.ends.0 in let none = adds.2.ends.2 in let one = starts_one in omega arith);
+        started = (let all = ap starts ends ∙ starts_append beginning (Start ∷ []) in let before = starts_append (batch_events f.batches) adds.2.ends.0 in let none = adds.2.ends.2 in let one = starts_one in omega arith);
         sent = sent;
       };
-      counted = length_last p.values air front ∙ ap length own_slots ∙ sym count;
+      counted = length_last p.values air beginning ∙ ap length own_slots ∙ sym count;
     }
 
     -- or those before the one at which the mast failed
-    pub cycle_failed : {M : Type 0} (state : M → MastState) (slot : ℕ) (before now : M) → Changes (with_buckets (take slot (last_bytes p.values air front))) (state before).told (state now).told
+    pub cycle_failed : {M : Type 0} (state : M → MastState) (slot : ℕ) (before now : M) → Changes (with_buckets (take slot (last_bytes p.values air beginning))) (state before).told (state now).told
         → FailedAt state slot (board_bytes form own.edition (program own.disks) b) before now → FailsAfter state p.values air slot (batch_events f.batches) (batch_events g.batches) before now
     cycle_failed state slot before now sent failed = record {
-      more = last_bytes p.values air front;
+      more = last_bytes p.values air beginning;
       aired = bytes;
       failed = record {
-        within = let w = failed.within in let n = length_cycle form own.edition (program own.disks) b in let m = length_last p.values air front in let s = ap length own_slots in omega arith;
+        within = let w = failed.within in let n = length_cycle form own.edition (program own.disks) b in let m = length_last p.values air beginning in let s = ap length own_slots in omega arith;
         just_before = failed.just_before;
-        sent = subst (Changes (with_buckets (take slot (last_bytes p.values air front))) (state before).told) failed.kept sent;
+        sent = subst (Changes (with_buckets (take slot (last_bytes p.values air beginning))) (state before).told) failed.kept sent;
         calm = failed.calm;
         port = failed.port;
         rose = failed.rose;
@@ -255,7 +255,7 @@ module _ (p q : PassState) (f g : PublisherState) (b : Board) (on : GoesOn p q) 
       };
     }
 
-    pub cycle_failed_by : {M : Type 0} (state : M → MastState) (e : AirFault) (n : ℕ) (before now : M) → n ≡ failed_slot e → Changes (with_buckets (take (failed_slot e) (last_bytes p.values air front))) (state before).told (state now).told
+    pub cycle_failed_by : {M : Type 0} (state : M → MastState) (e : AirFault) (n : ℕ) (before now : M) → n ≡ failed_slot e → Changes (with_buckets (take (failed_slot e) (last_bytes p.values air beginning))) (state before).told (state now).told
         → IsAirAnswer state (board_bytes form own.edition (program own.disks) b) before now e → FailsAfter state p.values air n (batch_events f.batches) (batch_events g.batches) before now
     cycle_failed_by state (fault.Mast slot) n before now is sent failed =
         subst (λ m. FailsAfter state p.values air m (batch_events f.batches) (batch_events g.batches) before now) (sym is) (cycle_failed state slot before now sent failed)

@@ -12,7 +12,7 @@ use Rattle.air_devices.specs.Masts.{Changes, MastState, SentBuckets, with_bucket
 use Rattle.air_sender.specs.AirFaults.{FailedAt}
 use Rattle.cycle_snapshot.specs.Batches.{batch_events}
 use Rattle.deck_runs.specs.PublishedBatches.{IsPublishedUpTo, IsUpTo}
-use Rattle.deck_runs.specs.Sendings.{IsCause, SendsPart}
+use Rattle.deck_runs.specs.Sendings.{IsFailure, SendsUntilFault}
 use Rattle.deck_runs.specs.declared.jobs.conductors.ConductFault.{ConductFault}
 use Rattle.deck_runs.specs.declared.jobs.conductors.ConductFault.TheVariants as fault
 use Rattle.air_model.proofs.AiringLemmas.{more_buckets, same_buckets}
@@ -20,7 +20,7 @@ use Rattle.air_model.proofs.BeyondLemmas.{whole_beyond}
 use Rattle.air_model.proofs.StartLemmas.{starts_none}
 use Rattle.deck_runs.specs.DeckBytes.{deck_bytes}
 use Rattle.deck_runs.specs.RunAnswers.{FailsInRun, IsRunAnswer, SendsFirst, run_fault}
-use Rattle.deck_runs.specs.Private.StageSteps.{BeginsWhole, IsSeenAnswer, SendsFront}
+use Rattle.deck_runs.specs.Private.StageSteps.{BeginsWhole, IsSeenAnswer, SendsBeginning}
 
 -- ---- more of a history airs more bytes
 
@@ -36,7 +36,7 @@ first_bytes deck H later n l =
       ap (take n) is ∙ take-append-le n (deck_bytes deck H) more l,
     )
 
--- A history that goes on without a start airs the same.
+-- A history that continues without a start airs the same.
 pub same_bytes : (deck : Deck) (seen H : List Event) → GoesOnWithout is_start seen H → deck_bytes deck H ≡ deck_bytes deck seen
 unfolding starts
 same_bytes deck seen H (others, is, none) = ap (deck_bytes deck) is ∙ ap (map spelling) (same_buckets (values_in deck) (air_of deck) seen others none)
@@ -44,20 +44,20 @@ same_bytes deck seen H (others, is, none) = ap (deck_bytes deck) is ∙ ap (map 
 -- ---- what the conductor's answer says
 
 module _ {M : Type 0} (state : M → MastState) (deck : Deck) (before now : M) where
-  -- Of what was published, or of nothing.
+  -- The buckets of what was published, or of nothing, were sent.
   seen_part : (seen : List Event) (batches : List (List Event)) (behind : ℕ) → IsUpTo behind seen batches → Changes (with_buckets (deck_bytes deck (batch_events batches))) (state before).told (state now).told
-      → (state now).faults ≡ (state before).faults → SendsFront state deck seen before now
-  seen_part seen batches behind up sent calm = record { front = batch_events batches; later = up.later; begins = up.begins; sent = sent; calm = calm }
+      → (state now).faults ≡ (state before).faults → SendsBeginning state deck seen before now
+  seen_part seen batches behind up sent calm = record { beginning = batch_events batches; later = up.later; begins = up.begins; sent = sent; calm = calm }
 
-  pub seen_answer : (seen : List Event) (batches : List (List Event)) (e : ConductFault) → IsPublishedUpTo seen batches e → SendsPart state deck seen batches before now e → IsCause (state before).faults (state now).faults e
+  pub seen_answer : (seen : List Event) (batches : List (List Event)) (e : ConductFault) → IsPublishedUpTo seen batches e → SendsUntilFault state deck seen batches before now e → IsFailure (state before).faults (state now).faults e
       → IsSeenAnswer state deck seen before now e
   seen_answer seen batches (fault.Mast sent) up part cause = part
   seen_answer seen batches fault.NoMemory (inl up) part cause = seen_part seen batches 0 up part cause
   seen_answer seen batches fault.NoMemory (inr up) part cause = seen_part seen batches 1 up part cause
 
   pub run_answer : (seen : List Event) (batches : List (List Event)) (r : Result (Unit {0}) ConductFault) → IfErr r (IsPublishedUpTo seen batches)
-      → MatchResult r (λ _. Changes (with_buckets (deck_bytes deck seen)) (state before).told (state now).told) (SendsPart state deck seen batches before now)
-      → MatchResult r (λ _. (state now).faults ≡ (state before).faults) (IsCause (state before).faults (state now).faults)
+      → MatchResult r (λ _. Changes (with_buckets (deck_bytes deck seen)) (state before).told (state now).told) (SendsUntilFault state deck seen batches before now)
+      → MatchResult r (λ _. (state now).faults ≡ (state before).faults) (IsFailure (state before).faults (state now).faults)
       → MatchResult r (λ _. Changes (with_buckets (deck_bytes deck seen)) (state before).told (state now).told × ((state now).faults ≡ (state before).faults)) (IsSeenAnswer state deck seen before now)
   run_answer seen batches (Ok x) up aired cause = (aired, cause)
   run_answer seen batches (Err e) up aired cause = seen_answer seen batches e up aired cause
@@ -82,14 +82,14 @@ module _ {M : Type 0} (state : M → MastState) (deck : Deck) (before now : M) w
         };
       }
 
-  pub sends_first : (seen : List Event) → BeginsWhole deck seen → SendsFront state deck seen before now → SendsFirst state deck before now
+  pub sends_first : (seen : List Event) → BeginsWhole deck seen → SendsBeginning state deck seen before now → SendsFirst state deck before now
   sends_first seen (later, whole) s =
-      let bytes = deck_bytes deck s.front in
+      let bytes = deck_bytes deck s.beginning in
       let n = length bytes in
-      let same : seen ++ later ≡ s.front ++ (s.later ++ later) = ap (λ l. l ++ later) s.begins ∙ append_assoc s.front s.later later in
-      let first = first_bytes deck s.front (s.later ++ later) n (omega arith) in
+      let same : seen ++ later ≡ s.beginning ++ (s.later ++ later) = ap (λ l. l ++ later) s.begins ∙ append_assoc s.beginning s.later later in
+      let first = first_bytes deck s.beginning (s.later ++ later) n (omega arith) in
       record {
-        history = s.front ++ (s.later ++ later);
+        history = s.beginning ++ (s.later ++ later);
         whole = subst (IsWhole deck) same whole;
         count = n;
         within = first.0;
@@ -102,9 +102,9 @@ module _ {M : Type 0} (state : M → MastState) (deck : Deck) (before now : M) w
   fault_answer seen (fault.Mast sent) begins f = fails seen sent begins f
   fault_answer seen fault.NoMemory begins f = sends_first seen begins f
 
--- Where all was sent and no call failed.
-pub all_sent : {M : Type 0} (state : M → MastState) (deck : Deck) (before now : M) (seen : List Event) → Changes (with_buckets (deck_bytes deck seen)) (state before).told (state now).told → (state now).faults ≡ (state before).faults → SendsFront state deck seen before now
-all_sent state deck before now seen sent calm = record { front = seen; later = []; begins = sym (append-nil seen); sent = sent; calm = calm }
+-- If all was sent and no call failed.
+pub all_sent : {M : Type 0} (state : M → MastState) (deck : Deck) (before now : M) (seen : List Event) → Changes (with_buckets (deck_bytes deck seen)) (state before).told (state now).told → (state now).faults ≡ (state before).faults → SendsBeginning state deck seen before now
+all_sent state deck before now seen sent calm = record { beginning = seen; later = []; begins = sym (append-nil seen); sent = sent; calm = calm }
 
 -- ---- before all events
 

@@ -13,8 +13,8 @@ use Rattle.air_model.specs.declared.reports.LookLine.{LookLine}
 use Rattle.cycle_snapshot.specs.SnapshotStates.{MonitorState, PublisherState, new_monitor, new_publisher}
 use Rattle.deck_runs.specs.declared.jobs.crews.MonitorRun.{MonitorRun}
 use Rattle.deck_runs.specs.declared.jobs.TheConstants.{LOOKS}
-use Rattle.deck_runs.specs.Crews.{EachWatched, GivesLine, IsWatched, monitors_of}
-use Rattle.deck_runs.specs.Looks.{ShowsFront}
+use Rattle.deck_runs.specs.Private.Crews.{EachWatched, GivesLine, IsWatched, monitors_of}
+use Rattle.deck_runs.specs.Looks.{ShowsBeginning}
 use Rattle.deck_runs.specs.PublishedBatches.{IsUpTo, PublishesOn}
 use Rattle.deck_runs.proofs.LookLemmas.{shows}
 use Rattle.air_model.specs.MonitorSights.{AreGlances, AreLooks, IsSeen}
@@ -37,11 +37,11 @@ keep_publisher f g runs now new on watched k d l =
 
 -- ---- lines of a whole run
 
--- A line of a front of what the conductor has seen is one of the history.
-seen_in : (values : List ℕ) (conductor H : List Event) (line : LookLine) → GoesOnWithout is_start conductor H → ShowsFront values conductor line → IsSeen values H line
+-- A line of a beginning of what the conductor has seen is one of the history.
+seen_in : (values : List ℕ) (conductor H : List Event) (line : LookLine) → GoesOnWithout is_start conductor H → ShowsBeginning values conductor line → IsSeen values H line
 seen_in values conductor H line (others, is, none) s =
-    subst (λ l. IsSeen values l line) (sym (is ∙ ap (λ l. l ++ others) s.begins ∙ append_assoc s.front s.later others))
-    (frame values s.front (s.later ++ others) line s.ends s.cycle s.total)
+    subst (λ l. IsSeen values l line) (sym (is ∙ ap (λ l. l ++ others) s.begins ∙ append_assoc s.beginning s.later others))
+    (frame values s.beginning (s.later ++ others) line s.ends s.cycle s.total)
 
 -- One line of each place, which has that number.
 numbers_are : (lines : List LookLine) (n : ℕ) (d : LookLine) → length lines ≡ n → ((k : ℕ) → k < n → (get_or lines k d).monitor ≡ k) → map (λ line. line.monitor) lines ≡ range_with_len 0 n
@@ -52,9 +52,9 @@ numbers_are lines n d long each =
     get_or-map number lines k d 0 (omega arith) ∙ each k below ∙ (let r = get_or-range_with_len 0 n k 0 below in omega arith))
 
 -- The number of a line changes nothing of what it shows.
-numbered_shows : (values : List ℕ) (conductor : List Event) (line glance : LookLine) (number : ℕ) → glance ≡ record line { monitor = number } → ShowsFront values conductor line → ShowsFront values conductor glance
+numbered_shows : (values : List ℕ) (conductor : List Event) (line glance : LookLine) (number : ℕ) → glance ≡ record line { monitor = number } → ShowsBeginning values conductor line → ShowsBeginning values conductor glance
 numbered_shows values conductor line glance number is s = record {
-  front = s.front;
+  beginning = s.beginning;
   later = s.later;
   begins = s.begins;
   ends = s.ends;
@@ -72,10 +72,10 @@ module _ (deck : Deck) (f g : PublisherState) (runs now : List MonitorRun) (glan
     (up : IsUpTo 0 conductor g.batches)
     (cycles : starts conductor ≡ deck.settings.cycles)
     (goes_on : GoesOnWithout is_start conductor H) where
-  -- What the glance and the look of a place tell.
+  -- What the glance and the look at a place show.
   record AreLines (k : ℕ) (glance look : LookLine) : Type 0 where
-    glanced : ShowsFront (values_in deck) conductor glance
-    looked : ShowsFront (values_in deck) conductor look
+    glanced : ShowsBeginning (values_in deck) conductor glance
+    looked : ShowsBeginning (values_in deck) conductor look
     last : look.cycle ≡ starts conductor
     glance_number : glance.monitor ≡ k
     look_number : look.monitor ≡ k
@@ -89,8 +89,8 @@ module _ (deck : Deck) (f g : PublisherState) (runs now : List MonitorRun) (glan
       let full : length g.batches ≡ was.monitor.most = let all = up.count in omega arith in
       let shown = shows conductor g.batches s.told LOOKS was.monitor is.monitor s.monitor s.line look up full (omega arith) given.0 given.1 s.learnt s.looked s.look_is in
       record {
-        glanced = subst (λ v. ShowsFront v conductor glance) values (numbered_shows was.monitor.values conductor s.line glance k s.glance_is shown.0);
-        looked = subst (λ v. ShowsFront v conductor look) values shown.1;
+        glanced = subst (λ v. ShowsBeginning v conductor glance) values (numbered_shows was.monitor.values conductor s.line glance k s.glance_is shown.0);
+        looked = subst (λ v. ShowsBeginning v conductor look) values shown.1;
         last = shown.2;
         glance_number = ap (λ (l : LookLine). l.monitor) s.glance_is;
         look_number = s.number_is;

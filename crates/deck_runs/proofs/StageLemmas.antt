@@ -15,7 +15,7 @@ use Rattle.bucket_codec.specs.declared.offsets.TheConstants.{HEAD_BYTES}
 use Rattle.station.specs.PassStates.{PassState, new_pass, numbers_of, with_seen}
 use Rattle.deck_runs.specs.declared.jobs.crews.ConductorRun.{ConductorRun}
 use Rattle.deck_runs.specs.declared.jobs.crews.UpdaterRun.{UpdaterRun}
-use Rattle.deck_runs.specs.Crews.{CanConduct, EachDone, HasMadeUpdates, HasNewPass, passes_of}
+use Rattle.deck_runs.specs.Private.Crews.{CanConduct, EachDone, HasMadeUpdates, HasNewPass, passes_of}
 use Rattle.deck_runs.specs.PublishedBatches.{GoesOn}
 use Rattle.deck_runs.specs.Private.StageSteps.{AreNewUpdaters, HasEndedUpdates, HaveEnded, IsPlayed, IsUnplayed}
 use Rattle.deck_runs.specs.declared.threads.stages.Stage.{Stage}

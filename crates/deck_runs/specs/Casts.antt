@@ -1,4 +1,4 @@
--- What a cast sends, and what it leaves where it is not done.
+-- What a cast sends, and what it has sent if it isn't done.
 use Rattle.std.specs.Prelude.{◌≡◌, ◌≤◌, ℕ, List, length, take, Option, Some, None}
 use Rattle.air_history.specs.declared.histories.Event.{Event}
 use Rattle.air_model.specs.Decks.{Deck, IsWhole}
@@ -16,14 +16,14 @@ all_sent buckets = record { buckets = buckets; ended = Some (length buckets) }
 abbrev pub first_sent : ℕ → List (List ℕ) → SentBuckets
 first_sent count buckets = record { buckets = take count buckets; ended = None }
 
--- So many buckets of a whole history were sent, and no end.
-pub record IsCastPart (deck : Deck) (count : ℕ) (before now : Option SentBuckets) : Type 0 where
+-- The first `count` buckets of a whole history were sent, and no end.
+pub record IsCastBeginning (deck : Deck) (count : ℕ) (before now : Option SentBuckets) : Type 0 where
   pub history : List Event
   pub whole : IsWhole deck history
   pub within : count ≤ length (deck_bytes deck history)
   pub sent : Changes (λ _. first_sent count (deck_bytes deck history)) before now
 
--- What the fault of a cast says of the mast: it failed after so many buckets; without memory none of its calls failed.
+-- What the fault of a cast says of the mast: it failed after `sent` buckets; out of memory, none of its calls failed.
 abbrev pub IsCastAnswer : Deck → MastState → MastState → RunFault → Type 0
-IsCastAnswer deck before now (fault.Mast sent) = Rose before.faults now.faults × IsCastPart deck sent before.told now.told
-IsCastAnswer deck before now fault.NoMemory = (now.faults ≡ before.faults) × ((count : ℕ) × IsCastPart deck count before.told now.told)
+IsCastAnswer deck before now (fault.Mast sent) = Rose before.faults now.faults × IsCastBeginning deck sent before.told now.told
+IsCastAnswer deck before now fault.NoMemory = (now.faults ≡ before.faults) × ((count : ℕ) × IsCastBeginning deck count before.told now.told)

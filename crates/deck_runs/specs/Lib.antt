@@ -1,7 +1,6 @@
 pub mod Commits
 pub mod PublishedBatches
 pub mod Looks
-pub mod Crews
 pub mod Sendings
 pub mod Private
 pub mod DeckBytes

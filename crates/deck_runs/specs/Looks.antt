@@ -8,8 +8,8 @@ use Rattle.air_model.specs.MonitorSights.{EndsAtStart}
 use Rattle.cycle_snapshot.specs.Batches.{IsBatch, batch_events}
 use Rattle.cycle_snapshot.specs.SnapshotStates.{MonitorState}
 
--- A monitor m looked so many times and is then n. Where it looked it has seen whole batches, no more than the most, that go on from
--- all that it saw or was told, and keeps their frame; the number of looks is raised, up to its last value; nothing else changed.
+-- A monitor m looked `times` times and is then n. If it looked, it has seen whole batches, at most `most` of them, which continue all that it saw or
+-- was told, and it keeps their frame. The number of looks went up, to its greatest value at most; nothing else changed.
 pub record LookedTimes (times : ℕ) (m n : MonitorState) : Type 0 where
   pub seen : IsPrefix m.seen n.seen
   pub told : 0 < times → IsPrefix m.told n.seen
@@ -25,10 +25,10 @@ pub record IsLookLineOf (n : MonitorState) (line : LookLine) : Type 0 where
   pub total : line.total ≡ n.kept.total
 
 -- The line shows the frame of what the conductor has seen up to one of its starts, or of nothing.
-pub record ShowsFront (values : List ℕ) (conductor : List Event) (line : LookLine) : Type 0 where
-  pub front : List Event
+pub record ShowsBeginning (values : List ℕ) (conductor : List Event) (line : LookLine) : Type 0 where
+  pub beginning : List Event
   pub later : List Event
-  pub begins : conductor ≡ front ++ later
-  pub ends : EndsAtStart front
-  pub cycle : line.cycle ≡ (frame_of values front).cycle
-  pub total : line.total ≡ (frame_of values front).total
+  pub begins : conductor ≡ beginning ++ later
+  pub ends : EndsAtStart beginning
+  pub cycle : line.cycle ≡ (frame_of values beginning).cycle
+  pub total : line.total ≡ (frame_of values beginning).total

@@ -1,5 +1,6 @@
--- Definitions that private steps alone speak of: no public contract cites them.
+-- Definitions of private steps: no public contract cites them.
 pub mod CycleSteps
+pub mod Crews
 pub mod StageSteps
 pub mod SightSteps
 pub mod CastSteps

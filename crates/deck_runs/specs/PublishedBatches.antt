@@ -1,4 +1,4 @@
--- How a publisher's list and a board keep up with what the conductor's pass has seen.
+-- How a publisher's list and a board follow what the conductor's pass has seen.
 use Rattle.std.specs.Prelude.{◌≡◌, ◌⊎◌, ℕ, ◌+◌, List, ◌++◌, length, All}
 use mathlib.Core.List.{IsPrefix}
 use Rattle.air_history.specs.declared.histories.Event.{Event}
@@ -11,7 +11,7 @@ use Rattle.cycle_snapshot.specs.SnapshotStates.{PublisherState}
 use Rattle.deck_runs.specs.declared.jobs.conductors.ConductFault.{ConductFault}
 use Rattle.deck_runs.specs.declared.jobs.conductors.ConductFault.TheVariants as fault
 
--- The batches are what was seen up to and with a start, or nothing; behind them so many starts were seen.
+-- The batches are what was seen up to and including a start, or nothing; after them `behind` starts were seen.
 pub record IsUpTo (behind : ℕ) (seen : List Event) (batches : List (List Event)) : Type 0 where
   pub later : List Event
   pub begins : seen ≡ batch_events batches ++ later
@@ -19,34 +19,33 @@ pub record IsUpTo (behind : ℕ) (seen : List Event) (batches : List (List Event
   pub rest : starts later ≡ behind
   pub count : length batches + behind ≡ starts seen
 
--- The publisher is one of the pass's values, it has published what the pass has seen up to its last start, and the board is
--- that of this list.
+-- The publisher is one of the pass's values, it has published what the pass has seen up to its last start, and the board is that of this list.
 pub record AreInStep (p : PassState) (f : PublisherState) (b : Board) : Type 0 where
   pub values : f.values ≡ p.values
   pub published : IsUpTo 0 p.seen f.batches
   pub board : b ≡ board_of p.values (batch_events f.batches)
 
--- The board is that of what the pass has seen up to and with its last start, or of nothing.
+-- The board is that of what the pass has seen up to and including its last start, or of nothing.
 pub record IsBoardOf (p : PassState) (b : Board) : Type 0 where
-  pub front : List Event
+  pub beginning : List Event
   pub later : List Event
-  pub begins : p.seen ≡ front ++ later
-  pub ends : EndsAtStart front
+  pub begins : p.seen ≡ beginning ++ later
+  pub ends : EndsAtStart beginning
   pub rest : starts later ≡ 0
-  pub board : b ≡ board_of p.values front
+  pub board : b ≡ board_of p.values beginning
 
--- The pass p went on to q: it has seen more, and nothing else of it changed.
+-- The pass p became q: it has seen more, and nothing else of it changed.
 pub record GoesOn (p q : PassState) : Type 0 where
   pub same : q ≡ with_seen p q.seen
   pub seen : IsPrefix p.seen q.seen
 
--- The publisher f went on to g: it has published more, each time the events of one cycle, and nothing else of it changed.
+-- The publisher f became g: it has published more, one batch for each cycle, and nothing else of it changed.
 pub record PublishesOn (f g : PublisherState) : Type 0 where
   pub same : g ≡ record f { batches = g.batches }
   pub batches : IsPrefix f.batches g.batches
   pub each : All (IsBatch (length f.values)) batches.0
 
--- After a fault the published list goes up to the last start that was seen; without memory maybe up to the one before.
+-- After a fault the published list reaches the last start that was seen; out of memory, maybe only the one before.
 abbrev pub IsPublishedUpTo : List Event → List (List Event) → ConductFault → Type 0
 IsPublishedUpTo seen batches (fault.Mast sent) = IsUpTo 0 seen batches
 IsPublishedUpTo seen batches fault.NoMemory = IsUpTo 0 seen batches ⊎ IsUpTo 1 seen batches

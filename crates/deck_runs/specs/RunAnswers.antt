@@ -1,4 +1,4 @@
--- What a run that a fault ended has sent.
+-- What was sent of a run that ended with a fault.
 use Rattle.std.specs.Prelude.{◌≡◌, ℕ, ◌≤◌, List, length, take}
 use Rattle.air_history.specs.declared.histories.Event.{Event}
 use Rattle.air_model.specs.Decks.{Deck, IsWhole}
@@ -10,12 +10,12 @@ use Rattle.deck_runs.specs.DeckBytes.{deck_bytes}
 use Rattle.deck_runs.specs.declared.threads.RunFault.{RunFault}
 use Rattle.deck_runs.specs.declared.threads.RunFault.TheVariants as fault
 
--- The run's fault of a conductor's.
+-- The fault of the run, by the conductor's fault.
 abbrev pub run_fault : ConductFault → RunFault
 run_fault (conduct.Mast sent) = fault.Mast sent
 run_fault conduct.NoMemory = fault.NoMemory
 
--- After so many buckets of a whole history the mast failed.
+-- The mast failed after `sent` buckets of a whole history.
 pub record FailsInRun {M : Type 0} (state : M → MastState) (deck : Deck) (sent : ℕ) (before now : M) : Type 0 where
   pub history : List Event
   pub whole : IsWhole deck history

@@ -5,11 +5,11 @@ use Rattle.air_history.specs.declared.histories.Event.TheVariants.{Start}
 use Rattle.air_model.specs.Decks.{Deck}
 use Rattle.air_model.specs.Outputs.{run_tape}
 
--- The number of bytes of the tape of each run of a deck: those of as many starts as it has cycles.
+-- The number of bytes of the tape of each run of a deck: the tape of as many starts as the deck has cycles.
 unfoldable pub run_tape_len : Deck → ℕ
 run_tape_len deck = length (run_tape deck (replicate deck.settings.cycles Start))
 
--- The tape of each run of the deck would have so many bytes, more than a tape may have.
+-- The tape of each run of the deck would have this number of bytes, more than a tape may have.
 pub record IsLongRun (deck : Deck) (bytes : ℕ) : Type 0 where
   pub counted : bytes ≡ run_tape_len deck
   pub above : MOST_TAPE_BYTES < bytes

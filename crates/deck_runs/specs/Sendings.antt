@@ -22,8 +22,8 @@ use Rattle.deck_runs.specs.declared.jobs.conductors.ConductFault.TheVariants as 
 abbrev pub bytes_aired : List ℕ → Air → List Event → List (List ℕ)
 bytes_aired values air H = map spelling (buckets_of values air H)
 
--- A bucket of these values can be made in this form: each program has as many items as there are values, in version 1 no more than a bucket
--- with entries in full has, and for its bytes there is this room.
+-- A bucket of these values can be made in this form. Each program has as many items as there are values, in version 1 at most as many as a bucket
+-- with entries in full has. There is room for the bucket's bytes.
 pub record CanAirIn (form : Form) (values : List ℕ) (plans : Plans) (room : ℕ) : Type 0 where
   pub version : (form.version ≡ 1) ⊎ (form.version ≡ 2)
   pub items : HaveItems (length values) plans.programs
@@ -34,7 +34,7 @@ pub record CanAirIn (form : Form) (values : List ℕ) (plans : Plans) (room : �
 abbrev pub planned_program : Plans → ℕ → EditionDisks
 planned_program plans c = get_or plans.programs (planned_edition plans c) no_disks
 
--- What is aired of these values in this form: each cycle has the edition and the slots of the program in force in it.
+-- An air of these values in this form: each cycle has the edition and the slots of the program in force in it.
 pub record IsAirOf (values : List ℕ) (form : Form) (plans : Plans) (air : Air) : Type 0 where
   pub items : air.items ≡ length values
   pub policy_is : air.scheme.policy ≡ form.policy
@@ -42,33 +42,33 @@ pub record IsAirOf (values : List ℕ) (form : Form) (plans : Plans) (air : Air)
   pub edition_is : (c : ℕ) → edition_at air c ≡ (planned_program plans c).edition
   pub slots_are : (c : ℕ) → slots_at air c ≡ planned_slots plans c
 
--- The longer list starts so many cycles more, and what it airs beyond the shorter was sent, and nothing else.
+-- The list H starts `cycles` cycles more than G, and exactly what it airs beyond G was sent.
 pub record SendsCycles (values : List ℕ) (air : Air) (cycles : ℕ) (G H : List Event) (before now : Option SentBuckets) : Type 0 where
   pub more : List (List ℕ)
   pub aired : bytes_aired values air H ≡ bytes_aired values air G ++ more
   pub started : starts H ≡ starts G + cycles
   pub sent : Changes (with_buckets more) before now
 
--- Of what the longer list airs beyond the shorter so many buckets were sent, and then the mast failed.
+-- The mast failed after `sent` buckets of what the list H airs beyond G.
 pub record FailsAfter {M : Type 0} (state : M → MastState) (values : List ℕ) (air : Air) (sent : ℕ) (G H : List Event) (before now : M) : Type 0 where
   pub more : List (List ℕ)
   pub aired : bytes_aired values air H ≡ bytes_aired values air G ++ more
   pub failed : FailedAt state sent more before now
 
--- What a fault says of what was sent: after so many buckets of what the pass has seen the mast failed; without memory the
--- buckets of what was published were sent, of fewer cycles than were asked for.
+-- What a fault says of what was sent. The mast failed after `sent` buckets of what the pass has seen; or, out of memory, the buckets of what was
+-- published were sent, of fewer cycles than were asked for.
 abbrev pub SendsUpTo : {M : Type 0} → (M → MastState) → List ℕ → Air → ℕ → PassState → PassState → PublisherState → PublisherState → M → M → ConductFault → Type 0
 SendsUpTo state values air cycles p q f g before now (fault.Mast sent) = FailsAfter state values air sent p.seen q.seen before now
 SendsUpTo state values air cycles p q f g before now fault.NoMemory =
     (n : ℕ) × (n < cycles) × SendsCycles values air n (batch_events f.batches) (batch_events g.batches) (state before).told (state now).told
 
--- What was sent of a deck's run that a fault ended: after so many buckets of what the pass has seen the mast failed; without
--- memory the buckets of what was published were sent.
-abbrev pub SendsPart : {M : Type 0} → (M → MastState) → Deck → List Event → List (List Event) → M → M → ConductFault → Type 0
-SendsPart state deck seen batches before now (fault.Mast sent) = FailedAt state sent (bytes_aired (values_in deck) (air_of deck) seen) before now
-SendsPart state deck seen batches before now fault.NoMemory = Changes (with_buckets (bytes_aired (values_in deck) (air_of deck) (batch_events batches))) (state before).told (state now).told
+-- What was sent of a deck's run that ended with a fault. The mast failed after `sent` buckets of what the pass has seen; or, out of memory, the
+-- buckets of what was published were sent.
+abbrev pub SendsUntilFault : {M : Type 0} → (M → MastState) → Deck → List Event → List (List Event) → M → M → ConductFault → Type 0
+SendsUntilFault state deck seen batches before now (fault.Mast sent) = FailedAt state sent (bytes_aired (values_in deck) (air_of deck) seen) before now
+SendsUntilFault state deck seen batches before now fault.NoMemory = Changes (with_buckets (bytes_aired (values_in deck) (air_of deck) (batch_events batches))) (state before).told (state now).told
 
--- The mast's count rose where it failed, and else is as it was.
-abbrev pub IsCause : ℕ → ℕ → ConductFault → Type 0
-IsCause before now (fault.Mast sent) = Rose before now
-IsCause before now fault.NoMemory = now ≡ before
+-- If the mast failed, its count of failures went up; else it is as it was.
+abbrev pub IsFailure : ℕ → ℕ → ConductFault → Type 0
+IsFailure before now (fault.Mast sent) = Rose before now
+IsFailure before now fault.NoMemory = now ≡ before

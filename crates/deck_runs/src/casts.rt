@@ -17,7 +17,7 @@ use std::alloc::Global;
 use std::sync::Wait;
 use std::thread::Threads;
 
-/// How many buckets the deck's cycles have.
+/// The number of buckets in the deck's cycles.
 fn bucket_count(planned: &Planned) -> u64
     ensures { result ≡ bucket_count planned.now }
 {
@@ -30,7 +30,7 @@ fn bucket_count(planned: &Planned) -> u64
     count
 }
 
-/// Sends the end behind so many buckets.
+/// Sends the end, after `sent` buckets.
 fn send_end<M: Mast>(mast: &mut M, sent: u64) -> Result<(), RunFault>
     ensures ended { OnOk result (Changes with_end (M.state mast.old).told (M.state mast.new).told) }
     ensures calm { OnOk result ((M.state mast.new).faults ≡ (M.state mast.old).faults) }
@@ -45,9 +45,9 @@ fn send_end<M: Mast>(mast: &mut M, sent: u64) -> Result<(), RunFault>
     }
 }
 
-/// Aims the mast at a port, runs the deck on threads with it, and sends the end: exactly the run's buckets were sent and then the
-/// end. Where the mast failed, it had sent so many buckets of a whole history, and no end: none where it could not be aimed, and
-/// all where only the end failed. After `NoMemory` it sent the first of one, maybe none.
+/// Aims the mast at a port, runs the deck on threads with it, and sends the end: exactly the run's buckets were sent, and then the end. If the mast
+/// failed, it had sent the first `sent` buckets of a whole history, and no end: 0 if it could not be aimed, and all if only the end failed. After
+/// `NoMemory` it has sent the first buckets of a whole history, maybe none.
 pub fn cast_run<R: Threads + Wait + Sync, M: Mast + Send, G: Gate + Sync>(
     rt: &R,
     alloc: Global,

@@ -1,7 +1,6 @@
 //! The jobs of a run, and who does them: an updater commits its updates, the conductor airs the cycles, a monitor looks.
 //!
-//! The jobs are `updater_job`, `conductor_job` and `monitor_job`; `crews` has what each of them works on, and lets those of a kind run
-//! side by side.
+//! The jobs are `updater_job`, `conductor_job` and `monitor_job`. `crews` has what each of them works on, and runs those of a kind side by side.
 
 pub(crate) mod conductors;
 pub(crate) mod crews;

@@ -21,7 +21,7 @@ use std::alloc::Global;
 use std::sync::Wait;
 use std::thread::Threads;
 
-/// What a run comes to on the air: its history with what monitors saw, what the sessions of the deck's readers tell, and the tape.
+/// A run on the air: its history with what monitors saw, the sessions of the deck's readers, and the tape.
 #[derive(Drop)]
 pub struct HeardRun {
     pub run: Run,
@@ -29,7 +29,7 @@ pub struct HeardRun {
     pub tape: TapeMast,
 }
 
-/// Runs a deck on threads, and lets each reader hear its own ether of the tape.
+/// Runs a deck on threads, and lets each reader hear the tape through its own ether.
 pub fn air_run<R: Threads + Wait + Sync, G: Gate + Sync>(
     rt: &R,
     alloc: Global,

@@ -17,7 +17,7 @@ pub(crate) fn run_bytes(planned: &Planned) -> u64
     tape_bytes(planned.plans(), deck.items(), cycles, own_form(planned))
 }
 
-/// How many bytes the tape of each run of a deck would have, where that is more than a tape may have.
+/// The number of bytes of the tape of each run of a deck, if that is more than a tape may have.
 pub fn long_run(planned: &Planned) -> Option<u64>
     ensures { MatchOption result (run_tape_len planned.now ≤ MOST_TAPE_BYTES) (IsLongRun planned.now) }
 {

@@ -1,4 +1,4 @@
-//! A run of a deck.
+//! A run of a deck on threads.
 
 ghost use Rattle.std.specs.Prelude.{◌≡◌, IfErr, IfOk, OnOk};
 ghost use Rattle.air_model.specs.Batches.{AirsByBatches};
@@ -24,8 +24,8 @@ use std::marker::Model;
 use std::sync::Wait;
 use std::thread::Threads;
 
-/// A run's history; the last note of its publisher, which tells all batches that the conductor published; and what the monitors saw:
-/// each one's last look beside the run, and its look at the end.
+/// A run's history; the last note of its publisher, which tells all batches that the conductor published; and what the monitors saw: for each the
+/// last look of its job, and one more look at the end.
 #[derive(Drop)]
 pub struct Run {
     pub history: History,
@@ -60,9 +60,9 @@ impl Run {
 /// Why a run wasn't done.
 #[derive(Clone, Copy, Debug, PartialEq, Eq)]
 pub enum RunFault {
-    /// The mast failed, after so many buckets of the run.
+    /// The mast failed, after this number of buckets of the run.
     Mast { sent: u64 },
-    /// There was no memory.
+    /// Out of memory.
     NoMemory,
 }
 
@@ -91,9 +91,9 @@ impl From<ConductFault> for RunFault {
     }
 }
 
-/// Runs the deck on threads: its conductor beside all its updaters and its monitors. The history is whole, the batches that the
-/// publisher's last note tells air it, the mast got exactly its buckets, and each monitor saw it. Where the mast failed, it got so many
-/// buckets of a whole history; after `NoMemory` the first of one, maybe none.
+/// Runs the deck on threads: its conductor, all its updaters and its monitors at the same time. The history is whole, the batches in the publisher's
+/// last note air it, the mast was sent exactly its buckets, and each monitor saw it. If the mast failed, it was sent the first `sent` buckets of a
+/// whole history; after `NoMemory` the first ones, maybe none.
 pub fn run_threads<R: Threads + Wait + Sync, M: Mast + Send, G: Gate + Sync>(
     rt: &R,
     alloc: Global,

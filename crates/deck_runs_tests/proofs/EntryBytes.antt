@@ -1,4 +1,4 @@
--- In no version the entries have more bytes than in full.
+-- The entries of any version have at most as many bytes as in full.
 use Rattle.std.proofs.Common.{◌*◌, ◌≤◌, ℕ, Bool, true, false, if◌then◌else◌, arith, mul-le-mul_right}
 use Rattle.air_model.specs.Buckets.{entry_len, has_ages}
 

@@ -1,4 +1,4 @@
-//! What a board has, to be compared.
+//! The parts of a board, to be compared.
 
 use air_base::NoMemory;
 use control_matrix::Board;
@@ -13,7 +13,7 @@ pub struct BoardEnd {
     pub vector: Vec<u32>,
 }
 
-/// What a board has.
+/// The parts of a board.
 pub fn end_of(alloc: Global, board: &Board) -> Result<BoardEnd, NoMemory> {
     let mut values = Vec::new(alloc);
     let mut columns = Vec::new(alloc);
@@ -29,7 +29,7 @@ pub fn end_of(alloc: Global, board: &Board) -> Result<BoardEnd, NoMemory> {
     })
 }
 
-/// The board of items with these values, none of which was written after a cycle: all its entries are 0.
+/// The board of items with these values, of which none was written after the first start: all its entries are 0.
 pub fn written_early(alloc: Global, cycle: u32, values: &[u64]) -> Result<BoardEnd, NoMemory> {
     let vector = vec![in alloc; 0; values.len()]?;
     let mut columns = Vec::new(alloc);

@@ -1,4 +1,4 @@
-//! What a run is to leave, and its checker.
+//! What a run is expected to leave, and the check of it.
 
 ghost use Rattle.std.specs.Prelude.{◌≤◌, length};
 ghost use Rattle.air_base.specs.declared.limits.TheConstants.{MOST_DECK_BYTES};
@@ -14,22 +14,22 @@ use std::sync::Wait;
 use std::test::Fail;
 use std::thread::Threads;
 
-/// What a line may show: the first cycle and the last, and the total where there is just one.
+/// What a line may show: the first cycle and the last, and the total if there is only one.
 pub type LineSpan = (u32, u32, Option<u64>);
 
-/// An event: the updater of a commit and its number for it, or none for a start.
+/// An event: the updater of a commit and its number for it, or `None` for a start.
 pub type EventName = Option<(u32, u32)>;
 
-/// What is told of a history.
+/// What is expected of a history.
 #[derive(Clone, Copy)]
 pub enum Events<'a> {
     /// Its events.
     Listed(&'a [EventName]),
-    /// How many commits it has, and how many starts.
+    /// The number of its commits, and of its starts.
     Counted(usize, usize),
 }
 
-/// What is told of a run.
+/// What is expected of a run.
 #[derive(Clone, Copy)]
 pub struct RunLines<'a> {
     pub events: Events<'a>,
@@ -37,18 +37,18 @@ pub struct RunLines<'a> {
     pub looks: &'a [LineSpan],
 }
 
-/// What is told of a tape.
+/// What is expected of a tape.
 #[derive(Clone, Copy)]
 pub enum Tape<'a> {
     /// Its buckets.
     Buckets(&'a [BucketRow]),
     /// Its buckets, with the edition of each.
     Editions(&'a [EditionRow]),
-    /// How many bytes it has.
+    /// The number of its bytes.
     Bytes(usize),
 }
 
-/// A deck, how many bytes its tape has room for, and what is left: the run, or why it wasn't done, and the tape.
+/// A deck, the number of bytes that its tape has room for, and what is left: the run, or why it wasn't done, and the tape.
 #[derive(Clone, Copy)]
 pub struct Case<'a> {
     pub deck: &'a [u8],
@@ -57,22 +57,22 @@ pub struct Case<'a> {
     pub tape: Tape<'a>,
 }
 
-/// A part that is other than told, as it is.
+/// A part that isn't as expected, with its actual value.
 #[derive(Clone, Copy, Debug, PartialEq, Eq)]
 pub enum Other {
     /// The run was done.
     Done,
-    /// It wasn't.
+    /// The run wasn't done.
     Fault(RunFault),
-    /// How many commits and starts there are.
+    /// The number of commits and of starts.
     Events(usize, usize),
-    /// The event of this place.
+    /// The event at this place.
     Event(usize, EventName),
-    /// How many lines there are.
+    /// The number of lines.
     Lines(usize),
-    /// The line of this place.
+    /// The line at this place.
     Line(usize, LookLine),
-    /// How many bytes the tape has.
+    /// The number of bytes of the tape.
     Bytes(usize),
     /// The byte at this place of the tape.
     Byte(usize, u8),
@@ -86,12 +86,12 @@ fn name_of(event: &Event) -> EventName {
     }
 }
 
-/// How many events are starts.
+/// The number of starts among events.
 fn starts_in(events: &[Event]) -> usize {
     events.iter().filter(|event| event.is_start()).count()
 }
 
-/// In what a history is other than told.
+/// The first part of a history that isn't as expected, or `None`.
 fn other_event(history: &History, told: Events<'_>) -> Option<Other> {
     let events = history.events();
     let starts = starts_in(events);
@@ -116,7 +116,7 @@ fn shows(line: LookLine, place: usize, told: LineSpan) -> bool {
     line.monitor as usize == place && in_time && total.is_none_or(|total| line.total == total)
 }
 
-/// The first line that is other than told.
+/// The first line that isn't as expected, or `None`.
 fn other_line(lines: &[LookLine], told: &[LineSpan]) -> Option<Other> {
     if lines.len() != told.len() {
         return Some(Other::Lines(lines.len()));
@@ -129,7 +129,7 @@ fn other_line(lines: &[LookLine], told: &[LineSpan]) -> Option<Other> {
     None
 }
 
-/// In what a run is other than told.
+/// The first part of a run that isn't as expected, or `None`.
 fn other_in(run: &Run, told: &RunLines<'_>) -> Option<Other> {
     if let Some(other) = other_event(&run.history, told.events) {
         return Some(other);
@@ -140,7 +140,7 @@ fn other_in(run: &Run, told: &RunLines<'_>) -> Option<Other> {
     other_line(&run.looks, told.looks)
 }
 
-/// In what the end of a run is other than told.
+/// The first part of the end of a run that isn't as expected, or `None`.
 fn other_end(run: &Result<Run, RunFault>, told: &Result<RunLines<'_>, RunFault>) -> Option<Other> {
     match (run, told) {
         (Ok(run), Ok(told)) => other_in(run, told),
@@ -150,7 +150,7 @@ fn other_end(run: &Result<Run, RunFault>, told: &Result<RunLines<'_>, RunFault>)
     }
 }
 
-/// The first byte that is other than told.
+/// The first byte that isn't as expected, or `None`.
 fn other_byte(tape: &[u8], told: &[u8]) -> Option<Other> {
     if tape.len() != told.len() {
         return Some(Other::Bytes(tape.len()));
@@ -163,7 +163,7 @@ fn other_byte(tape: &[u8], told: &[u8]) -> Option<Other> {
     None
 }
 
-/// In what a tape is other than told.
+/// The first part of a tape that isn't as expected, or `None`.
 fn other_on(alloc: Global, tape: &[u8], told: Tape<'_>) -> Result<Option<Other>, AllocError> {
     match told {
         Tape::Buckets(buckets) => {
@@ -179,7 +179,7 @@ fn other_on(alloc: Global, tape: &[u8], told: Tape<'_>) -> Result<Option<Other>,
     }
 }
 
-/// The first part of what was left that is other than told.
+/// The first part of what was left that isn't as expected, or `None`.
 fn other_left(
     alloc: Global,
     left: &RunAndMast,
@@ -191,7 +191,7 @@ fn other_left(
     other_on(alloc, left.mast.tape(), case.tape)
 }
 
-/// Runs the case's deck with this gate. Tells the first part of what was left that is other than told.
+/// Runs the case's deck with this gate, and answers the first part of what was left that isn't as expected, or `None`.
 pub fn first_other<R: Threads + Wait + Sync, G: Gate + Sync>(
     rt: &R,
     alloc: Global,

@@ -42,7 +42,7 @@ pub fn tape_of(alloc: Global, buckets: &[BucketRow]) -> Result<Vec<u8>, AllocErr
 /// A bucket of three items whose entries are all 0: its edition, its cycle, its slot, its item, and the item's value.
 pub type EditionRow = (u8, u8, u8, u8, u8);
 
-/// What is aired where 11 was put into item 0 before all cycles: the second cycle is of edition 1.
+/// The tape of a run in which 11 was put into item 0 before all cycles: the second cycle is of edition 1.
 pub const CHANGING_TAPE: [EditionRow; 7] = [
     (0, 1, 0, 0, 11),
     (0, 1, 1, 1, 20),

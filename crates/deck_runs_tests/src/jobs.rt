@@ -1,7 +1,7 @@
 //! The three jobs of a run, each called once, one after the other on one thread: what each answers, and what it leaves.
 //!
-//! The updater commits before the conductor begins, so that each cycle airs what it left; the monitor looks before and after. Where the
-//! mast fails in a cycle, that cycle was started and published, and the board is that of all events which the pass has seen.
+//! The updater commits before the conductor begins, so that each cycle airs what it left. The monitor looks before and after. If the mast fails in a
+//! cycle, that cycle was started and published, and the board is that of all events that the pass has seen.
 
 ghost use Rattle.std.specs.Prelude.{◌≡◌, ◌<◌, ◌≤◌, ◌+◌, ◌*◌, [], length, IfOk};
 ghost use Rattle.air_base.specs.declared.limits.TheConstants.{MOST_DECK_BYTES};
@@ -28,8 +28,8 @@ use std::alloc::Global;
 use std::sync::Wait;
 use std::test::Fail;
 
-/// What the conductor answered, and what the jobs left: how many commits and starts their passes made, the lines of the monitor, the
-/// board, and the tape of what was sent.
+/// What the conductor answered, and what the jobs left: the number of commits and starts that their passes made, the lines of the monitor, the board,
+/// and the tape of what was sent.
 #[derive(Debug, Drop, PartialEq, Eq)]
 struct JobsEnd {
     conducted: Result<(), ConductFault>,
@@ -41,7 +41,7 @@ struct JobsEnd {
     tape: Vec<u8>,
 }
 
-/// The conductor: its pass, its board, what it publishes by and sends to, and room for the bytes of a bucket.
+/// The conductor: its pass, its board, its publisher, its mast, and room for the bytes of a bucket.
 #[derive(Drop)]
 struct Conductor {
     pass: ConductorPass,
@@ -117,7 +117,7 @@ fn conduct<R: Wait>(
     )
 }
 
-/// Does the jobs one after the other; none where there is no monitor.
+/// Does the jobs one after another; `None` if there is no monitor.
 fn work<R: Wait>(
     wait: &R,
     alloc: Global,
@@ -155,7 +155,7 @@ fn work<R: Wait>(
     }))
 }
 
-/// A conductor of the pass, with the board of the first values, and a mast with room for so many bytes.
+/// A conductor of the pass, with the board of the first values, and a mast with room for this number of bytes.
 fn new_conductor(
     alloc: Global,
     deck: &Deck,
@@ -177,7 +177,7 @@ fn new_conductor(
     })
 }
 
-/// What the jobs of a deck of one updater and one monitor leave, over a mast with room for so many bytes; none where it has not those.
+/// What the jobs of a deck of one updater and one monitor leave, over a mast with room for this number of bytes; `None` for another deck.
 fn left_by_jobs<R: Wait>(
     wait: &R,
     alloc: Global,
@@ -212,7 +212,7 @@ fn left_by_jobs<R: Wait>(
     Ok(left?)
 }
 
-/// Both commits stand before all cycles: item 0 has 11, and item 1 has 16 by way of item 0.
+/// Both commits come before all cycles: item 0 has 11, and item 1 has 16 by way of item 0.
 const JOBS_TAPE: [BucketRow; 6] = [
     (1, 0, 11, [0, 0]),
     (1, 1, 16, [0, 0]),

@@ -8,7 +8,7 @@ use std::alloc::Global;
 use std::sync::Wait;
 use std::test::Fail;
 
-/// The last look of a monitor of two values, of which nothing was published.
+/// The last look of a monitor of two values, if nothing was published.
 fn line_of_last_look<R: Wait>(wait: &R, alloc: Global) -> Result<Option<LookLine>, NoMemory> {
     let (source, mut monitors) = publisher(wait, alloc, &[10, 20], 1, 5)?;
     let line = match monitors.pop() {

@@ -1,7 +1,7 @@
-//! Tests of runs: small decks on threads, whatever the schedule, one in which a gate lets three threads meet, a monitor's last look, and
-//! each job by itself (`jobs`, with its board in `boards`).
+//! Tests of runs: small decks on threads under any schedule, one in which a gate lets three threads meet, a monitor's last look, and each job by
+//! itself (`jobs`, with its board in `boards`).
 //!
-//! `decks` has what is run, `plays` runs it, `cases` tells in what a run left something else (`runs`, `meetings`).
+//! `decks` has the decks that are run, `plays` runs them, and `cases` finds what a run left otherwise than expected (`runs`, `meetings`).
 #![tactic(auto)]
 
 #[cfg(test)]

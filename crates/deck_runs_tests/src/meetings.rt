@@ -5,7 +5,7 @@ use crate::decks::{BucketRow, MEETING};
 use meeting_gate::MeetingGate;
 use std::test::Fail;
 
-/// The first commit stands before all cycles, the second in the second one: then item 1 has 16, by way of item 0.
+/// The first commit comes before all cycles, the second in cycle 2: then item 1 has 16, by way of item 0.
 const MEETING_TAPE: [BucketRow; 6] = [
     (1, 0, 11, [0, 0]),
     (1, 1, 20, [0, 0]),

@@ -20,7 +20,7 @@ pub struct RunAndMast {
     pub mast: TapeMast,
 }
 
-/// Runs a deck on threads. The tape has so much room.
+/// Runs a deck on threads. The tape has room for this number of bytes.
 pub fn play<R: Threads + Wait + Sync, G: Gate + Sync>(
     rt: &R,
     alloc: Global,

@@ -6,7 +6,7 @@ use air_devices::OpenGate;
 use deck_runs::RunFault;
 use std::test::Fail;
 
-/// What a run without updates airs.
+/// The tape of a run without updates.
 const QUIET_TAPE: [BucketRow; 4] = [
     (1, 0, 10, [0, 0]),
     (1, 1, 20, [0, 0]),
@@ -14,7 +14,7 @@ const QUIET_TAPE: [BucketRow; 4] = [
     (2, 1, 20, [0, 0]),
 ];
 
-/// What a run without updates airs whose second cycle is of edition 1.
+/// The tape of a run without updates whose second cycle is of edition 1.
 const QUIET_CHANGING_TAPE: [EditionRow; 7] = [
     (0, 1, 0, 0, 10),
     (0, 1, 1, 1, 20),

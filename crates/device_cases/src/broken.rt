@@ -1,6 +1,6 @@
-//! A runtime of which every call fails, as one whose disk, network and output are gone.
+//! A runtime of which every call fails, as if its disk, network and output were gone.
 //!
-//! The shelf of `broken` and the devices of `system` go over it, so that a case shows what they say of each failed call.
+//! The shelf of `broken` and the devices of `system` use it, so that a case shows what they say of each failed call.
 
 use std::alloc::Allocator;
 use std::fmt::Display;

@@ -1,6 +1,6 @@
 //! Ears. The buffer has room for three bytes, so that longer buckets are cut.
 //!
-//! `ear` has how often the ear hears, the calls that fail, and the buckets that wait.
+//! `ear` takes the number of times that the ear hears, the calls that fail, and the buckets that wait.
 
 ghost use Rattle.std.specs.Prelude.{◌≤◌, length, All, IfOk, IsSome};
 
@@ -12,7 +12,7 @@ use air_devices::{Ear, Heard, MemEar, UdpEar};
 use case_lines::{Parts, first_part};
 use std::alloc::Global;
 
-/// The buckets that the parts left are.
+/// The buckets that the remaining parts spell.
 fn buckets(alloc: Global, parts: &mut Parts<'_>) -> Result<Vec<Vec<u8>>, NoMemory>
     ensures { IfOk result (λ all. All (λ bytes. 1 ≤ length bytes.items) all.items) }
 {
@@ -28,7 +28,7 @@ fn buckets(alloc: Global, parts: &mut Parts<'_>) -> Result<Vec<Vec<u8>>, NoMemor
     Ok(all)
 }
 
-/// The numbers of calls, with a comma between each two, or `-`.
+/// The numbers of calls, separated by commas, or `-`.
 fn calls(alloc: Global, parts: &mut Parts<'_>) -> Result<Vec<u64>, NoMemory> {
     let mut all = Vec::new(alloc);
     let mut rest = if parts.takes(b"-") { &[] } else { parts.next() };

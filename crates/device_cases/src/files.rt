@@ -27,7 +27,7 @@ pub fn name_of(alloc: Global, parts: &mut Parts<'_>) -> Result<String, NoMemory>
     Ok(name)
 }
 
-/// Makes a file or a link, or removes a file; adds it where that failed.
+/// Makes a file or a link, or removes a file, and adds it if that failed.
 pub fn change_files<R: Files>(
     rt: &R,
     alloc: Global,
@@ -49,8 +49,7 @@ pub fn change_files<R: Files>(
     }
 }
 
-/// Adds what the shelf keeps of its last failure: what was done, the name, the error's kind, and all as a text. Of a long name
-/// its length is told.
+/// Adds what the shelf keeps of its last failure: what was done, the name, the error's kind, and all as a text. For a long name it adds the length.
 pub fn add_kept<R: Files + Print + Drop>(
     alloc: Global,
     shelf: &FileShelf<R>,

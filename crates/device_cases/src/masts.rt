@@ -1,6 +1,6 @@
 //! Masts, and a tape in a room of fixed size.
 //!
-//! `mast` has a room and the calls that fail, `room` only a room; `send` and `add` have the text that is sent or added.
+//! `mast` takes a room and the calls that fail, `room` only a room. `send` and `add` take the text that is sent or added.
 
 use crate::broken::BrokenSystem;
 use crate::shelves::{add_done, add_text};
@@ -16,7 +16,7 @@ pub fn new_mast(alloc: Global, parts: &mut Parts<'_>) -> Result<MemMast, NoMemor
     MemMast::new(alloc, room, parts.numbers(alloc)?)
 }
 
-/// Sends the text, or the end where there is none, and adds whether it was done.
+/// Sends the text, or the end if there is none, and adds whether it was done.
 pub fn send(
     alloc: Global,
     mast: &mut MemMast,
@@ -35,7 +35,7 @@ pub fn send(
     }
 }
 
-/// Adds the tape of what was sent, and whether the end was.
+/// Adds the tape of what was sent, and whether the end was sent.
 pub fn add_sent(mast: &MemMast, came: &mut Vec<u8>) -> Result<(), NoMemory> {
     came.extend_from_slice(b"tape ")?;
     add_hex(mast.sent(), came)?;
@@ -66,7 +66,7 @@ pub fn add_record(
     add_hex(tape.as_slice(), came)
 }
 
-/// Adds what a call that fails says, with `done` before it where it doesn't fail.
+/// Adds `done` if the call didn't fail, and what the given failure says.
 pub fn add_said(
     alloc: Global,
     answer: Result<(), Failed>,

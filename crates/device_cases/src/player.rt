@@ -28,9 +28,9 @@ use std::rt::Files;
 pub enum ShelfInUse {
     /// One in memory.
     Memory(MemShelf),
-    /// That over files.
+    /// The one over files.
     Files,
-    /// That over a failing system.
+    /// The one over a failing system.
     Broken,
 }
 
@@ -46,7 +46,7 @@ pub struct Devices<R: Files + Print + Clone + Drop> {
 }
 
 impl<R: Files + Print + Clone + Drop> Devices<R> {
-    /// Plays a call of the shelf that is held.
+    /// Plays a call of the current shelf.
     fn play_shelf(
         &mut self,
         alloc: Global,
@@ -63,7 +63,7 @@ impl<R: Files + Print + Clone + Drop> Devices<R> {
         }
     }
 
-    /// Tells what the shelf that is held holds, or keeps of its last failure.
+    /// Adds what the current shelf holds, or keeps of its last failure.
     fn add_shelf(&self, alloc: Global, came: &mut Vec<u8>) -> Result<(), NoMemory> {
         match &self.held {
             ShelfInUse::Memory(shelf) => add_held(shelf, came),
@@ -81,7 +81,7 @@ impl<R: Files + Print + Clone + Drop> Devices<R> {
     }
 }
 
-/// Tells what a failing system says.
+/// Adds what a failing system says.
 fn tell_system(alloc: Global, came: &mut Vec<u8>) -> Result<(), NoMemory> {
     send_broken(alloc, came)?;
     hear_broken(alloc, came)?;

@@ -36,7 +36,7 @@ module _ (sums cs : List ℕ) (slots weight : ℕ) (sizes : List ℕ) (some : 0 
   own_first other rest long costs =
       first.first other (record { rest = rest; slots = long; weighs = same_factor slots (weight_from sums cs 0 other) weight some (ap (λ n. n * weight_from sums cs 0 other) (sym long) ∙ costs) })
 
-  -- they are the best where nothing was found with fewer slots
+  -- they are the best if nothing was found with fewer slots
   pub alone_best : ((other : List ℕ) → IsSplitRest sums cs 0 other → minor_from cs other < slots → ⊥) → IsBestBelow sums cs (slots + 1) (slots * weight) sizes
   alone_best none = record {
     rest = first.is.rest;
@@ -54,7 +54,7 @@ module _ (sums cs : List ℕ) (slots weight : ℕ) (sizes : List ℕ) (some : 0 
           by (inr more) = omega arith
 
   module _ (old : ℕ) (kept : List ℕ) (best : IsBestBelow sums cs slots old kept) where
-    -- they are the best where they are better than what was found
+    -- they are the best if they are better than what was found
     pub new_best : ((slots * weight < old) ⊎ ((slots * weight ≡ old) × (is_before sizes kept ≡ true))) → IsBestBelow sums cs (slots + 1) (slots * weight) sizes
     new_best up = record {
       rest = first.is.rest;
@@ -76,7 +76,7 @@ module _ (sums cs : List ℕ) (slots weight : ℕ) (sizes : List ℕ) (some : 0 
         later other rest costs (inr same) (inl short) below = not_before sizes kept other (before_not sizes kept same.1) (best.first other rest short (costs ∙ same.0))
         later other rest costs o (inr long) below = own_first other rest (omega arith) costs
 
-    -- what was found stays the best where they aren't better
+    -- what was found stays the best if they aren't better
     pub old_best : ((old < slots * weight) ⊎ ((slots * weight ≡ old) × (is_before sizes kept ≡ false))) → IsBestBelow sums cs (slots + 1) old kept
     old_best up = record {
       rest = best.rest;
@@ -98,7 +98,7 @@ module _ (sums cs : List ℕ) (slots weight : ℕ) (sizes : List ℕ) (some : 0 
         later other rest costs (inl less) (inr long) below = absurd (let low = own_least other rest (omega arith) in omega arith)
         later other rest costs (inr same) (inr long) below = not_before kept sizes other same.1 (own_first other rest (omega arith) (costs ∙ sym same.0))
 
--- Where they cost as much, their sizes decide.
+-- If they cost the same, their sizes decide.
 pub level_cost : (new old : BestSizes) → old.cost ≤ new.cost → new.cost ≡ old.cost → is_before new.sizes old.sizes ≡ is_better new old
 level_cost new old more same = by (is_before new.sizes old.sizes)
   where
@@ -124,7 +124,7 @@ better_or_not new old b e = by (cases_lt new.cost old.cost) (cases_lt old.cost n
     by (inr o) (inr p) true f false e = absurd (grind (arith, nat_tests))
     by (inr o) (inr p) false f false e = inr (refl, inr (omega arith, f))
 
--- One number of slots on, where some sizes have just that number.
+-- One number of slots on, if some sizes have exactly that number.
 pub found_more : (sums cs : List ℕ) (slots weight : ℕ) (best : Option BestSizes) (new : BestSizes) → 0 < slots → new.cost ≡ slots * weight → IsCell sums cs 0 slots (Some weight)
     → IsFirst sums cs 0 slots weight new.sizes → IsFound sums cs slots best → IsFound sums cs (slots + 1) (Some (better best new))
 found_more sums cs slots weight None new some costs cell first found =
@@ -143,7 +143,7 @@ found_more sums cs slots weight (Some old) new some costs cell first found = by 
     by false (inr up) =
         old_best sums cs slots weight new.sizes some cell first old.cost old.sizes found (subst (λ n. (old.cost < n) ⊎ ((n ≡ old.cost) × (is_before new.sizes old.sizes ≡ false))) costs up.1)
 
--- One number of slots on, where no sizes have just that number.
+-- One number of slots on, if no sizes have exactly that number.
 pub found_none : (sums cs : List ℕ) (slots : ℕ) (best : Option BestSizes) → IsCell sums cs 0 slots None → IsFound sums cs slots best → IsFound sums cs (slots + 1) best
 found_none sums cs slots best cell found = by best found
   where

@@ -65,7 +65,7 @@ minor_is m from all sums (spec ∷ specs) (s ∷ ss) long h =
     ∙ ap (λ l. chunk_slots (m / spec.freq) s + sum_by (chunk_len m) (cut l (resized specs ss))) (drop-drop s from all)
     ∙ ap (λ n. chunk_slots (m / spec.freq) s + n) more
 
--- What a disk weighs, where there are m minor cycles: its chunks times the rates of its items.
+-- What a disk weighs if there are m minor cycles: its chunks times the rates of its items.
 abbrev pub disk_weight : ℕ → (ℕ → ℕ) → Disk → ℕ
 disk_weight m rate d = num_chunks m d * sum_by rate d.items
 

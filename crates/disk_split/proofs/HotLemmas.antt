@@ -50,7 +50,7 @@ Falls xs = AllPairs (λ x y. y ≤ x) xs
 abbrev one_at : ℕ → ℕ → ℕ
 one_at v x = cond (x == v) 1 0
 
--- How often a number stands in a list.
+-- How often a number is in a list.
 abbrev often : ℕ → List ℕ → ℕ
 often v xs = sum_by (one_at v) xs
 
@@ -72,7 +72,7 @@ none_above v b (x ∷ xs) low less =
     let rest = none_above v b xs (All-tail (λ y. y ≤ b) x xs low) less in
     let own = All-head (λ y. y ≤ b) x xs low in let none = not_one v x (omega arith) in let all = sum_by-cons (one_at v) x xs in omega arith
 
--- The head of a falling list is no less than a number that stands in it.
+-- The head of a falling list is at least each number of the list.
 heads : (x y : ℕ) (xs ys : List ℕ) → Falls (y ∷ ys) → often x (x ∷ xs) ≡ often x (y ∷ ys) → x ≤ y
 heads x y xs ys falls same = by (cases_lt y x)
   where

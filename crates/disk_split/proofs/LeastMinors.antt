@@ -37,7 +37,7 @@ not_fewer sums (c ∷ cs) most from (s ∷ ss) some few h =
     let both : most * (chunk_slots c s + minor_from cs ss) ≡ most * chunk_slots c s + most * minor_from cs ss = omega arith in omega arith
 
 -- ---- some sizes reach that number
--- Where there are no more items than room, some sizes for the disks from one on take them all, with at most this number of slots.
+-- If there are no more items than room, some sizes for the disks from one on take them all, with at most this number of slots.
 abbrev Fills : List ℕ → List ℕ → ℕ → ℕ → Type 0
 Fills sums cs room slots = (from items : ℕ) → from + items + 1 ≡ length sums → length cs ≤ items → items ≤ room → (sizes : List ℕ) × IsSplitRest sums cs from sizes × (minor_from cs sizes ≤ slots)
 
@@ -79,7 +79,7 @@ fills_one sums (c ∷ cs) some =
     again sums (c ∷ cs) (1 * c + sum cs) (sum (c ∷ cs)) (1 + length cs) (suc (length cs)) (let all = sum_by-cons (λ x. x) c cs in omega arith) (omega arith)
     (fills_more sums cs c 1 (sum cs) (length cs) (All-head (λ c. 1 ≤ c) c cs some) (omega arith) (sum_many cs tail) (fills_one sums cs tail))
 
--- And k slots more on one disk.
+-- A chunk of one slot on each disk, and k slots more on one disk.
 fills_most : (sums cs : List ℕ) (most k place : ℕ) → All (λ c. 1 ≤ c) cs → slice_get cs place ≡ Some most → Fills sums cs (sum cs + k * most) (length cs + k)
 fills_most sums [] most k place some at = cc at
 fills_most sums (c ∷ cs) most k zero some at =

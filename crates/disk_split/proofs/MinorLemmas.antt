@@ -59,7 +59,7 @@ common_bound m f n some more few under =
     let grows : f * m ≤ 64 * m = mul-le-mul_right m few in
     let next = pow_more 64 n in omega arith
 
--- The product stays far below 64 bits.
+-- The product is far below 2 ^ 64.
 pub product_fits : (m f n : ℕ) → f ≤ 64 → m ≤ 64 ^ n → n < 8 → f * m < 2 ^ 64
 product_fits m f n few under eight =
     let grows : f * m ≤ 64 * m = mul-le-mul_right m few in

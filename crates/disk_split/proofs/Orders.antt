@@ -21,11 +21,11 @@ turned xs ys = ap is_lt (nat_list_cmp_total.antisymm xs ys) ∙ by (slice_cmp na
     by Equal = refl
     by Greater = refl
 
--- Where ys isn't before xs and zs isn't before ys, zs isn't before xs.
+-- If ys isn't before xs and zs isn't before ys, zs isn't before xs.
 pub not_before : (xs ys zs : List ℕ) → is_before ys xs ≡ false → is_before zs ys ≡ false → is_before zs xs ≡ false
 not_before xs ys zs a b = turned zs xs ∙ upto nat_list_cmp_total xs ys zs (sym (turned ys xs) ∙ a) (sym (turned zs ys) ∙ b)
 
--- Of two lists that come before each other none does.
+-- No two lists come before each other.
 pub before_not : (xs ys : List ℕ) → is_before xs ys ≡ true → is_before ys xs ≡ false
 before_not xs ys e = turned ys xs ∙ by (slice_cmp nat_cmp xs ys) e
   where
@@ -40,7 +40,7 @@ later_head s t xs ys less = grind (arith, nat_tests)
 pub same_head : (s : ℕ) (xs ys : List ℕ) → is_before ys xs ≡ false → is_before (s ∷ ys) (s ∷ xs) ≡ false
 same_head s xs ys e = grind (arith, nat_tests)
 
--- Two lists of which neither comes first are one.
+-- If neither of two lists comes first, they are equal.
 pub level : (xs ys : List ℕ) → is_before xs ys ≡ false → is_before ys xs ≡ false → xs ≡ ys
 level [] [] a b = refl
 level [] (y ∷ ys) a b = cc a

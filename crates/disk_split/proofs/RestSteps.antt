@@ -111,7 +111,7 @@ pub some_first : (sums chunks : List ℕ) (next : List (List (Option ℕ))) (lef
 some_first sums [] next left some has least = absurd (omega arith)
 some_first sums (c ∷ cs) next left some has least = some_size sums cs c next left has least
 
--- What is left behind the first size, and that the size goes before the sizes that come first there.
+-- What is left after the first size; that size goes before the sizes that come first there.
 pub step_rest : (sums chunks : List ℕ) (next : List (List (Option ℕ))) (left : RestToPlace) (size : ℕ) (rest : RestToPlace) → 0 < length chunks → HasCells sums (drop 1 chunks) left.slots next
     → IsLeastRest sums chunks left → IsFirstSize sums (slice_index chunks 0) next left size rest
     → IsLeastRest sums (drop 1 chunks) rest × ((after : List ℕ) → IsFirst sums (drop 1 chunks) rest.from rest.slots rest.weight after → IsFirst sums chunks left.from left.slots left.weight (size ∷ after))

@@ -18,7 +18,7 @@ below_one sums cs c from len = record {
     none [] below rest = rest
     none (s ∷ ss) below rest = let full = rest.0 in omega arith
 
--- The sizes behind a first one.
+-- The sizes after a first one.
 record IsTaken (sums cs : List ℕ) (c from len top : ℕ) (sizes : List ℕ) : Type 0 where
   tail : List ℕ
   rest : IsSplitRest sums cs (from + top) tail

@@ -15,7 +15,7 @@ use Rattle.disk_split.proofs.CostLemmas.{cost_is}
 use Rattle.disk_split.proofs.DeckLemmas.{deck_sums, length-deck_sums, minor_walk, rest_split, slots_walk, split_rest, weight_walk}
 use Rattle.disk_split.proofs.RestLemmas.{slots_few, slots_many}
 
--- n times a number are at most m where the number is at most the quotient, and not where it isn't.
+-- n times a number is at most m if the number is at most the quotient, and more if it isn't.
 quotient_fits : (m n k : ℕ) → 0 < n → k ≤ m / n → n * k ≤ m
 quotient_fits m n k some up =
     let grows : n * k ≤ n * (m / n) = mul-le-mul_left n up in
@@ -34,15 +34,15 @@ fits_quotient m n k some fits = by (cases_lt (m / n) k)
 pub few_minors : (n k m : ℕ) → 1 ≤ k → n * k ≤ m → n ≤ m
 few_minors n k m some fits = let grows : n * 1 ≤ n * k = mul-le-mul_left n some in omega arith
 
--- What sizes cost fits 64 bits where their minor cycles have few slots.
+-- What sizes cost fits 64 bits if their minor cycles have few slots.
 pub cost_small : (slots weight : ℕ) → slots ≤ 1024 → weight < 2 ^ 46 → slots * weight < 2 ^ 64
 cost_small slots weight few small = let grows : slots * weight ≤ 1024 * weight = mul-le-mul_right weight few in omega arith
 
--- Some split has the fewest slots, so there are as many as disks at least.
+-- Some split has the fewest slots, so there are at least as many as disks.
 pub least_many : (sums cs : List ℕ) (least : ℕ) → All (λ c. 1 ≤ c) cs → IsLeastMinor sums cs least → length cs ≤ least
 least_many sums cs least some low = let r = low.reached in let many = slots_many sums cs 0 r.0 some r.1 in let is = r.2 in omega arith
 
--- And no more than items.
+-- Some split has the fewest slots, so there are at most as many as items.
 pub least_few : (sums cs : List ℕ) (least : ℕ) → All (λ c. 1 ≤ c) cs → IsLeastMinor sums cs least → least < length sums
 least_few sums cs least some low = let r = low.reached in let few = slots_few sums cs 0 r.0 some r.1 in let is = r.2 in omega arith
 
@@ -52,7 +52,7 @@ module _ (deck : Deck) (made : IsDeck deck) where
       cost_is deck sizes made split ∙ ap (λ n. minor_of deck sizes * n) (weight_walk deck sizes split) ∙ ap (λ n. n * weight_from (deck_sums deck) (chunks_in deck) 0 sizes) (minor_walk deck sizes split)
 
   module _ (cut : AreChunks (chunks_in deck)) (some : 0 < minors_in deck) where
-    -- a split is short where the slots of its minor cycle are below the width
+    -- a split is short if the slots of its minor cycle are below the width
     short_below : (sizes : List ℕ) → IsShortSplit deck sizes → minor_from (chunks_in deck) sizes < min (MOST_SLOTS / minors_in deck) (length deck.items) + 1
     short_below sizes short =
         let walk = slots_walk deck sizes short.split in let fits = short.short in
@@ -83,7 +83,7 @@ module _ (deck : Deck) (made : IsDeck deck) where
         walk : (sizes : List ℕ) → IsShortSplit deck sizes → cost deck sizes ≡ cost_from (deck_sums deck) (chunks_in deck) sizes
         walk sizes s = cost_walk sizes s.split
 
-    -- nothing is found only where no sizes are short
+    -- nothing is found only if no sizes are short
     pub none_short : (least : ℕ) → IsLeastMinor (deck_sums deck) (chunks_in deck) least → minors_in deck * least ≤ MOST_SLOTS
         → IsFound (deck_sums deck) (chunks_in deck) (min (MOST_SLOTS / minors_in deck) (length deck.items) + 1) None → ⊥
     none_short least low fits none =
@@ -91,7 +91,7 @@ module _ (deck : Deck) (made : IsDeck deck) where
         let walk = slots_walk deck r.0 split in let is = ap (λ n. minors_in deck * n) r.2 in
         none r.0 r.1 (short_below r.0 (record { split = split; short = omega arith }))
 
-  -- where even the fewest slots are too many, all splits are too long
+  -- if even the fewest slots are too many, all splits are too long
   pub too_long : (least slots : ℕ) → IsLeastMinor (deck_sums deck) (chunks_in deck) least → slots ≡ minors_in deck * least → MOST_SLOTS < slots → AreAllTooLong deck slots
   too_long least slots low is over = record {
     above = over;

@@ -93,7 +93,7 @@ twenty_are_few = record {
   short = omega (arith, twenty_slots);
 }
 
--- A split gives no disk nothing.
+-- A split gives each disk an item.
 pub empty_disk_is_none : IsSplit eleven (0 ∷ 7 ∷ 4 ∷ []) → ⊥
 empty_disk_is_none split = let some = All-head (λ n. 1 ≤ n) 0 (7 ∷ 4 ∷ []) split.filled in omega arith
 
@@ -126,7 +126,7 @@ at_least sizes split =
 pub all_too_long : AreAllTooLong three 737856
 all_too_long = record { above = omega arith; reached = (1 ∷ 1 ∷ 1 ∷ [], one_each, three_slots); least = at_least }
 
--- The least number is told, and no lower one, nor one that no program is too long for.
+-- The answer is the least number, no lower one, and none that a program may have.
 pub not_all_too_long : (AreAllTooLong three 737855 → ⊥) × (AreAllTooLong eleven 20 → ⊥)
 not_all_too_long = (
   λ h. let r = h.reached in let low = at_least r.0 r.1 in let is = r.2 in omega arith,

@@ -70,7 +70,7 @@ row_of_none sums from width false some is = record { narrow = omega arith; cells
 pub product_small : (c a : ℕ) → c ≤ MOST_SLOTS → a < 2 ^ 32 → c * a < 2 ^ 46
 product_small c a few small = let grows : c * a ≤ MOST_SLOTS * a = mul-le-mul_right a few in omega arith
 
--- What a cell weighs stays small with what one more disk adds.
+-- What a cell weighs stays small after one disk more.
 cell_small : (sums cs : List ℕ) (c from size len weight : ℕ) (row : List (Option ℕ)) (width : ℕ) → AreSums sums → AreChunks (c ∷ cs) → 1 ≤ size → IsTableRow sums cs (from + size) width row
     → slice_index_or row len None ≡ Some weight → weight + c * rates_from sums from size < 2 ^ 46
 unfolding IsSplitRest weight_from
@@ -88,7 +88,7 @@ row_room sums [] from size width row are cut some full is = absurd (omega arith)
 row_room sums (c ∷ cs) from size width row are cut some full is = λ len weight at. let small = cell_small sums cs c from size len weight row width are cut full is at in omega arith
 
 -- ---- lists as they are made
--- What holds of each element at its place holds once one more is put behind them.
+-- What holds of each element at its place still holds after one more is added at the end.
 pub each_more : {X : Type 0} (P : ℕ → X → Type 0) (xs new : List X) (x d : X) (n : ℕ) → length xs ≡ n → new ≡ xs ++ x ∷ [] → ((k : ℕ) → k < n → P k (slice_index_or xs k d)) → P n x
     → (k : ℕ) → k < n + 1 → P k (slice_index_or new k d)
 each_more P xs new x d n long grew each last k below = by (cases_lt k n)
@@ -102,7 +102,7 @@ each_more P xs new x d n long grew each last k below = by (cases_lt k n)
         let e : x ≡ slice_index_or new k d = sym (ap (λ l. slice_index_or l k d) grew ∙ get_or_push xs x d k (omega arith)) in
         subst (P k) e (subst (λ m. P m x) same last)
 
--- The chunks of the disks from one on, and those behind it.
+-- The chunks of the disks from one on, and of those after it.
 pub tail_chunks : (chunks : List ℕ) (count : ℕ) → count < length chunks
     → drop 1 (take (length chunks - (length chunks - (count + 1))) (drop (length chunks - (count + 1)) chunks)) ≡ drop (length chunks - count) chunks
 tail_chunks chunks count below =

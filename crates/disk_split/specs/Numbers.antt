@@ -6,7 +6,7 @@ use Rattle.air_model.specs.Disks.{order}
 use Rattle.air_model.specs.Programs.{least_common_multiple}
 use Rattle.disk_split.specs.Rests.{IsSplitRest, minor_from}
 
--- The number of minor cycles of a cycle, whatever the sizes.
+-- The number of minor cycles of a cycle, regardless of the sizes.
 unfoldable pub minors_in : Deck → ℕ
 minors_in deck = fold (λ m d. least_common_multiple m d.freq) 1 deck.disks
 

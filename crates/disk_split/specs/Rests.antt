@@ -31,13 +31,13 @@ weight_from sums [] from sizes = 0
 weight_from sums (c ∷ cs) from [] = 0
 weight_from sums (c ∷ cs) from (size ∷ sizes) = c * rates_from sums from size + weight_from sums cs (from + size) sizes
 
--- The sizes are such, with this number of slots and this weight.
+-- These are sizes for the disks, with this number of slots and this weight.
 pub record IsRestOf (sums chunks : List ℕ) (from len weight : ℕ) (sizes : List ℕ) : Type 0 where
   pub rest : IsSplitRest sums chunks from sizes
   pub slots : minor_from chunks sizes ≡ len
   pub weighs : weight_from sums chunks from sizes ≡ weight
 
--- The sizes are such, and no others of as many slots and the same weight come first.
+-- Of all sizes with this number of slots and this weight, these come first.
 pub record IsFirst (sums chunks : List ℕ) (from len weight : ℕ) (sizes : List ℕ) : Type 0 where
   pub is : IsRestOf sums chunks from len weight sizes
   pub first : (other : List ℕ) → IsRestOf sums chunks from len weight other → is_before other sizes ≡ false

@@ -17,13 +17,13 @@ pub record AreAllTooLong (deck : Deck) (slots : ℕ) : Type 0 where
   pub reached : (sizes : List ℕ) × IsSplit deck sizes × (slots_of deck sizes ≡ slots)
   pub least : (sizes : List ℕ) → IsSplit deck sizes → slots ≤ slots_of deck sizes
 
--- Too much is said with the size of the search, and only where that is above the limit.
+-- `TooMuch` has the size of the search, and is answered only if that is above the limit.
 abbrev pub SaysTooMuch : Deck → SplitFault → Type 0
 SaysTooMuch deck (TooMuch product) = (product ≡ search_size deck) × (MOST_SPLIT < product)
 SaysTooMuch deck (TooLong slots) = search_size deck ≤ MOST_SPLIT
 SaysTooMuch deck NoMemory = ⊤
 
--- Too long is said with the least number of slots of any split, and only where that is more than a program may have.
+-- `TooLong` has the least number of slots of any split, and is answered only if that is more than a program may have.
 abbrev pub SaysTooLong : Deck → SplitFault → Type 0
 SaysTooLong deck (TooMuch product) = ⊤
 SaysTooLong deck (TooLong slots) = AreAllTooLong deck slots

@@ -1,6 +1,6 @@
--- The splits of a deck: how many items each of its disks takes, and which split has a listener wait least.
--- A listener who wants an item and tunes in at any slot waits half the item's gap on the average. So what is weighed is
--- the sum of the rates times the gaps. Its laws are `cost_law`, `best_law` and `some_split_law`.
+-- The splits of a deck: how many items each of its disks takes, and for which split a listener waits least.
+-- A listener who wants an item and tunes in at any slot waits half the item's gap on average. So the cost is the sum of the rates times the gaps. Its
+-- laws are `cost_law`, `best_law` and `some_split_law`.
 use Rattle.std.specs.Prelude.{◌≡◌, ◌≤◌, ℕ, ◌*◌, Bool, false, List, [], ◌∷◌, All, codes, length, map, slice_index, sum, sum_by}
 use Rattle.std.specs.Cmp.Lexicographic.{slice_cmp}
 use Rattle.std.specs.List.{range_with_len}
@@ -46,12 +46,12 @@ slots_of deck sizes = num_minors (split_disks deck sizes) * minor_of deck sizes
 unfoldable pub cost : Deck → List ℕ → ℕ
 cost deck sizes = sum_by (λ i. slice_index (rates_in deck) i * gap_of (split_disks deck sizes) i) (range_with_len 0 (length deck.items))
 
--- A split is short where its program has no more slots than a program may have.
+-- A split is short if its program has no more slots than a program may have.
 pub record IsShortSplit (deck : Deck) (sizes : List ℕ) : Type 0 where
   pub split : IsSplit deck sizes
   pub short : slots_of deck sizes ≤ MOST_SLOTS
 
--- Of two lists that differ, that one comes first which has the smaller number where they first differ.
+-- Of two lists that differ, the first is the one with the smaller number at the first place where they differ.
 abbrev pub is_before : List ℕ → List ℕ → Bool
 is_before xs ys = is_lt (slice_cmp nat_cmp xs ys)
 

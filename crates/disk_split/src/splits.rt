@@ -1,4 +1,4 @@
-//! The best split of a deck, and its cost beside that of the deck's own sizes.
+//! The best split of a deck, and its cost compared with that of the deck's own sizes.
 
 ghost use Rattle.std.specs.Prelude.{◌≡◌, ◌<◌, ◌≤◌, ◌^◌, IfErr, IfOk, OnOk};
 ghost use Rattle.disk_split.specs.Splits.{IsBest, cost, sizes_in};
@@ -35,7 +35,7 @@ pub enum SplitFault {
     TooMuch { product: u64 },
     /// The split of fewest slots has this number, which is more than a program may have.
     TooLong { slots: u64 },
-    /// There was no memory.
+    /// Out of memory.
     NoMemory,
 }
 
@@ -62,7 +62,7 @@ impl fmt::Display for SplitFault {
 
 impl Error for SplitFault {}
 
-/// Refuses what is too much to search.
+/// Refuses a search of a size above `MOST_SPLIT`.
 pub fn check_size(product: u64) -> Result<(), SplitFault>
     ensures few { OnOk result (product ≤ MOST_SPLIT) }
     ensures much { IfErr result (λ e. (e ≡ fault.TooMuch product) × (MOST_SPLIT < product)) }

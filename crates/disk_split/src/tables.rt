@@ -52,7 +52,7 @@ impl Model for Table {
     ghost view = { λ table. table.rows.items };
 }
 
-/// The less of a cell and a weight.
+/// The lesser of a cell and a weight.
 fn lesser_weight(cell: Option<u64>, weight: u64) -> Option<u64>
     ensures { result ≡ lesser_weight cell weight }
 {
@@ -123,7 +123,7 @@ fn table_from(
     Ok(Table { rows })
 }
 
-/// The row of a place for no disk: only behind the last item nothing is left to take, in no slots and with no weight.
+/// The row of a place for no disk: only after the last item nothing is left to take, in no slots and with no weight.
 fn last_row(alloc: Global, is_end: bool) -> Result<TableRow, AllocError>
     ensures { IfOk result (λ row. row ≡ (if is_end then Some 0 ∷ [] else [])) }
 {

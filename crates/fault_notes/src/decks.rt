@@ -1,4 +1,4 @@
-//! What is wrong with a deck that was refused.
+//! What is wrong with a refused deck.
 
 pub(crate) mod ends;
 pub(crate) mod limits;
@@ -28,7 +28,7 @@ use std::alloc::Global;
 /// The tags of a deck's records.
 const TAGS: &str = "item, disk, replan, update, reader, query, script and set";
 
-/// Of whom a note on a record tells.
+/// The name of what a note on a record is about.
 fn subject_of<'a>(before: &RecordsBefore, record: &'a Record, known: TaggedForm) -> Sentence<'a> {
     let text = record.field(1);
     let (wording, number) = match known.tag {
@@ -41,7 +41,7 @@ fn subject_of<'a>(before: &RecordsBefore, record: &'a Record, known: TaggedForm)
     Sentence::words(wording, text, known.name, "").with(number, 0, "")
 }
 
-/// What is wrong with a record; none where that isn't found.
+/// What is wrong with a record, or `None` if that isn't found.
 fn sentence_of<'a>(found: &'a FoundRecord, known: TaggedForm, kind: u8) -> Option<Sentence<'a>> {
     let FoundRecord { record, before, .. } = found;
     match kind {
@@ -59,7 +59,7 @@ fn sentence_of<'a>(found: &'a FoundRecord, known: TaggedForm, kind: u8) -> Optio
     }
 }
 
-/// Of whom a note tells, and what is wrong; none where that isn't found.
+/// What a note is about, and what is wrong, or `None` if that isn't found.
 fn note_parts<'a>(found: &'a FoundRecord, kind: u8) -> Option<(Sentence<'a>, Sentence<'a>)> {
     let FoundRecord { record, before, .. } = found;
     let nobody = Sentence::numbers("", 0, 0, 0);
@@ -79,7 +79,7 @@ fn note_parts<'a>(found: &'a FoundRecord, kind: u8) -> Option<(Sentence<'a>, Sen
     Some((subject, sentence))
 }
 
-/// What is wrong with a deck: the file's name and the line at which the faulty record begins, its row, and the fault.
+/// A note on a deck: the file's name and the line at which the faulty record begins, its row number, and the fault.
 pub fn deck_note(
     alloc: Global,
     name: &str,

@@ -1,10 +1,9 @@
-//! What is wrong with words, a deck, a tape or a report that were refused, said for a person: where it stands, and what would be right.
+//! What is wrong with refused words, a refused deck, tape or report, said for a person: the place of the fault, and what would be right.
 //!
-//! The status of a refusal and its printed line come from the contracts of the commands; nothing here changes them. `records` finds
-//! the faulty record and its line, what the records before it say, and what its fields have to spell. `decks` tells what is wrong with a
-//! deck, by the kind of the fault, `reports` of a report; `tapes` finds where a tape is cut while its pieces go by. `prompts` tells what is
-//! wrong with the words of a command, `silences` that a deck gives no verdict. `words` has the sentences in which they say it. No clause
-//! says what a note has: they are tested.
+//! The contracts of the commands give the status of a refusal and its printed line; nothing here changes them. `records` finds the faulty record and
+//! its line, what the records before it say, and what its fields have to spell. `decks` says what is wrong with a deck, by the kind of the fault, and
+//! `reports` with a report. `tapes` finds where a tape is cut while its pieces go by. `prompts` says what is wrong with the words of a command, and
+//! `silences` that a deck gives no verdict. `words` has the sentences. No clause says what a note has: notes are tested.
 #![tactic(auto)]
 
 mod decks;

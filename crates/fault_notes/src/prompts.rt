@@ -1,4 +1,4 @@
-//! Notes on words of no form, and the help on one command. The commands and their forms are read from the text of the help.
+//! Notes on words that aren't a valid command, and the help on one command. The commands and their forms are read from the text of the help.
 
 pub(crate) mod usages;
 
@@ -103,7 +103,7 @@ fn named_note<'a>(
     Ok((sentence, command))
 }
 
-/// What is wrong with words of no form, and the command that was meant, if it is known.
+/// What is wrong with words that aren't a valid command, and the command that was meant, if it is known.
 fn note_parts<'a>(
     alloc: Global,
     help: &'static str,
@@ -116,7 +116,7 @@ fn note_parts<'a>(
     }
 }
 
-/// What stands before a form in the usage.
+/// What the usage has before a form.
 fn before_form(is_first: bool) -> &'static str {
     if is_first {
         "\nusage: airdisk "
@@ -148,7 +148,7 @@ fn add_usages(
     Ok(())
 }
 
-/// A note on words of no form: what is wrong, and below it the usage of the command that was meant, or of all commands.
+/// A note on words that aren't a valid command: what is wrong, and below it the usage of the command that was meant, or of all commands.
 pub fn words_note(alloc: Global, help: &'static str, words: &[String]) -> Result<String, NoMemory> {
     let (sentence, command) = note_parts(alloc, help, words)?;
     let mut note = format!(in alloc; "airdisk: {sentence}")?;
@@ -156,7 +156,7 @@ pub fn words_note(alloc: Global, help: &'static str, words: &[String]) -> Result
     Ok(note)
 }
 
-/// A note on words of which one isn't text, and below it the usage of all commands.
+/// A note on words that aren't all text, and below it the usage of all commands.
 pub fn no_text_note(alloc: Global, help: &'static str) -> Result<String, NoMemory> {
     let mut note = String::new(alloc);
     note.push_str("airdisk: a word isn't UTF-8")?;

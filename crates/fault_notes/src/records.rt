@@ -1,4 +1,4 @@
-//! The record of a row: where it begins, its fields, and what the records before it say.
+//! The record of a row number: where it begins, its fields, and what the records before it say.
 
 pub(crate) mod before;
 pub(crate) mod fields;
@@ -14,13 +14,13 @@ use air_base::{NoMemory, read_u64};
 use csv::{ByteRecord, ReaderBuilder};
 use std::alloc::Global;
 
-/// The fields of a record, as texts; what is no text in them is shown by other characters.
+/// The fields of a record, as texts. Bytes that aren't text are replaced by a character.
 #[derive(Drop)]
 pub struct Record {
     fields: Vec<String>,
 }
 
-/// What stands at a row.
+/// What a row number has.
 #[derive(Clone, Copy)]
 pub enum Kind {
     Record,
@@ -28,7 +28,7 @@ pub enum Kind {
     Nothing,
 }
 
-/// What stands at a row: where a record does, the line at which it begins, else 0; the record; and what those before it say.
+/// What is found at a row number: the line at which the record begins, or 0 if there is no record; the record; and what the records before it say.
 #[derive(Drop)]
 pub struct FoundRecord {
     pub kind: Kind,
@@ -47,12 +47,12 @@ impl Record {
         Ok(Record { fields })
     }
 
-    /// How many fields there are.
+    /// The number of fields.
     pub fn len(&self) -> usize {
         self.fields.len()
     }
 
-    /// The field at a place; an empty one where there is none.
+    /// The field at a place; empty if there is none.
     pub fn field(&self, place: usize) -> &str {
         match self.fields.get(place) {
             Some(field) => field.as_str(),
@@ -60,14 +60,14 @@ impl Record {
         }
     }
 
-    /// The number in a field; 0 where there is none.
+    /// The number in a field; 0 if there is none.
     pub fn number(&self, place: usize) -> u64 {
         read_u64(self.field(place).as_bytes()).unwrap_or(0)
     }
 }
 
 impl FoundRecord {
-    /// A note on it: the file's name, where it stands, its row, of whom the note tells, and what is wrong.
+    /// A note: the file's name, the line of the record, its row number, what the note is about, and what is wrong.
     pub fn note(
         &self,
         alloc: Global,
@@ -82,7 +82,7 @@ impl FoundRecord {
         Ok(format!(in alloc; "{name}{place}record {row}: {subject}{sentence}")?)
     }
 
-    /// Where it stands, behind the name of the file.
+    /// The line of the record, as it is written after the name of the file.
     pub fn place(&self) -> Sentence<'static> {
         let wording = match self.kind {
             Kind::Record => ":#first#: ",
@@ -98,7 +98,7 @@ fn ends_line(byte: u8) -> bool {
     byte == b'\n' || byte == b'\r'
 }
 
-/// The line at which the record begins that was read from this place on, counted from 1: behind the empty lines there.
+/// The line, counted from 1, at which the record begins that was read from this place on. It is after the empty lines there.
 pub fn line_at(bytes: &[u8], place: u64) -> u64 {
     let mut line = 1_u64;
     let mut before = 0_u8;
@@ -114,7 +114,7 @@ pub fn line_at(bytes: &[u8], place: u64) -> u64 {
     line
 }
 
-/// What stands at a row of a text.
+/// Finds what a text has at a row number.
 pub fn find(alloc: Global, bytes: &[u8], row: u32) -> Result<FoundRecord, NoMemory> {
     let mut records = ReaderBuilder::new()
         .has_headers(false)

@@ -1,4 +1,4 @@
-//! What is wrong with a report that was refused.
+//! What is wrong with a refused report.
 
 pub(crate) mod strangers;
 
@@ -14,13 +14,13 @@ use air_base::NoMemory;
 use item_catalog::Deck;
 use std::alloc::Global;
 
-/// The tags of a report's lines where no attempt ends as aged, and where one may.
+/// The tags of a report's lines if no attempt ends as aged, and if one may.
 const TAGS: [&str; 2] = [
     "start, commit, accept, abort, unfinished, counts, glance and look",
     "start, commit, accept, abort, aged, unfinished, counts, glance and look",
 ];
 
-/// Where a line stands, with the later one above it, where no attempt ends as aged, and where one may.
+/// The place of a line, compared with that of a later one above it, if no attempt ends as aged, and if one may.
 const ORDERS: [&str; 2] = [
     "stands below the #name# line of record #first#: first come start and commit, then accept, abort and unfinished, then counts, then glance, then look",
     "stands below the #name# line of record #first#: first come start and commit, then accept, abort, aged and unfinished, then counts, then glance, then look",
@@ -50,7 +50,7 @@ fn rule_of(kind: u8) -> Sentence<'static> {
     Sentence::numbers(rule, 0, 0, 0)
 }
 
-/// Whether the deck is told, and its attempts may end as aged.
+/// Whether the deck is given, and its attempts may end as aged.
 fn may_age(deck: Option<&Deck>) -> bool {
     match deck {
         Some(deck) => 2 <= deck.settings().version,
@@ -58,7 +58,7 @@ fn may_age(deck: Option<&Deck>) -> bool {
     }
 }
 
-/// The tag isn't one of the report's; of `aged` the deck has another version.
+/// A note that the tag isn't one of the report's. For `aged` it says that the deck has another version.
 fn unknown_tag_note<'a>(deck: Option<&Deck>, record: &'a Record) -> Sentence<'a> {
     if report_form(record.field(0)).is_some() {
         let wording = "the tag is #text#: only reports of decks of version 2 have it";
@@ -67,7 +67,7 @@ fn unknown_tag_note<'a>(deck: Option<&Deck>, record: &'a Record) -> Sentence<'a>
     tag_note(record, if may_age(deck) { TAGS[1] } else { TAGS[0] })
 }
 
-/// The row and the name of a line of a later section above; none where there is none.
+/// The row number and the name of a line of a later section above, or `None`.
 fn later_line(before: &RecordsBefore, tag: RecordTag) -> Option<(u32, &'static str)> {
     for place in section(tag) + 1..5 {
         if before.begun[place].is_some() {
@@ -77,7 +77,7 @@ fn later_line(before: &RecordsBefore, tag: RecordTag) -> Option<(u32, &'static s
     None
 }
 
-/// A line of a later section stands above; none where none does.
+/// A note that a line of a later section is above, or `None`.
 fn order_note(
     deck: Option<&Deck>,
     before: &RecordsBefore,
@@ -88,7 +88,7 @@ fn order_note(
     Some(Sentence::words(wording, "", name, "").with(row as u64, 0, ""))
 }
 
-/// A cycle of a line hasn't been started above it.
+/// A note that a cycle which a line names hasn't been started above it.
 fn cycle_note<'a>(starts: u64, record: &'a Record, tag: RecordTag) -> Sentence<'a> {
     let (wording, text) = match tag {
         RecordTag::Glance | RecordTag::Look => (
@@ -109,7 +109,7 @@ fn cycle_note<'a>(starts: u64, record: &'a Record, tag: RecordTag) -> Sentence<'
     Sentence::words(wording, text, "", "").with(0, starts, "")
 }
 
-/// What is wrong with a line of a report; none where that isn't found.
+/// What is wrong with a line of a report, or `None` if that isn't found.
 fn sentence_of<'a>(
     deck: Option<&Deck>,
     found: &'a FoundRecord,
@@ -128,7 +128,7 @@ fn sentence_of<'a>(
     }
 }
 
-/// Of whom a note tells, and what is wrong.
+/// What a note is about, and what is wrong.
 fn note_parts<'a>(
     deck: Option<&Deck>,
     found: &'a FoundRecord,
@@ -153,8 +153,8 @@ fn note_parts<'a>(
     }
 }
 
-/// What is wrong with a report: the file's name and the line at which the faulty record begins, its row, and the fault. Where
-/// the deck is told, also what of it the record would have to name.
+/// A note on a report: the file's name and the line at which the faulty record begins, its row number, and the fault. If the deck is given, also what
+/// of it the record would have to name.
 pub fn report_note(
     alloc: Global,
     name: &str,

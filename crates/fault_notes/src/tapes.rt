@@ -1,4 +1,4 @@
-//! Where a tape is cut, found while its pieces go by: of what was fed only the length of the record that isn't whole is kept.
+//! Where a tape is cut, found while its pieces go by. Only the length of the record that isn't whole is kept.
 
 ghost use Rattle.std.specs.Prelude.{◌≤◌, length};
 
@@ -8,19 +8,19 @@ use air_base::NoMemory;
 use bucket_codec::offsets::LENGTH_BYTES;
 use std::alloc::Global;
 
-/// What is there of the first record of a tape that isn't whole, by the pieces that were fed: those of the tape, one after another.
+/// What the pieces fed so far have of the first record that isn't whole. They are those of the tape, one after another.
 #[derive(Drop)]
 pub struct CutTape {
     /// The record's number, counted from 1.
     number: u64,
-    /// The bytes of its length that are there, behind zeros.
+    /// The bytes of its length that are there, after zeros.
     length_bytes: [u8; LENGTH_BYTES],
-    /// How many of its bytes are there, with those of its length.
+    /// The number of its bytes that are there, including those of its length.
     there: usize,
 }
 
 impl CutTape {
-    /// A tape of which nothing was fed yet.
+    /// A tape of which nothing has been fed.
     pub fn new() -> CutTape {
         CutTape {
             number: 1,
@@ -37,7 +37,7 @@ impl CutTape {
         }
     }
 
-    /// Takes a byte, and what belongs to its record of the bytes behind it; gives those that are left. Of a length it takes one byte.
+    /// Takes a byte and those after it that are of the same record, and returns the bytes that are left. Of a record's length it takes one byte only.
     fn take<'a>(&mut self, byte: u8, more: &'a [u8]) -> &'a [u8]
         ensures { length result.now ≤ length more.now }
     {
@@ -60,7 +60,7 @@ impl CutTape {
         &more[count..]
     }
 
-    /// What of the record is there; nothing where the tape ends behind a whole one.
+    /// What of the record is there; empty if the tape ends after a whole one.
     fn part_note(&self) -> Sentence<'static> {
         if self.there == 0 {
             return Sentence::numbers("", 0, 0, 0);
@@ -74,7 +74,7 @@ impl CutTape {
         Sentence::numbers(wording, there as u64, size as u64, 0)
     }
 
-    /// Which record of the tape is cut, once all of it was fed: the one that begins at this byte.
+    /// Which record of the tape is cut, after all of it was fed: the one that begins at this byte.
     pub fn note(&self, alloc: Global, name: &str, at: u64) -> Result<String, NoMemory> {
         let name = ShownText::whole(name);
         let record = self.number;

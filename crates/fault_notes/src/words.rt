@@ -1,4 +1,4 @@
-//! What a note is made of: sentences with places, texts as they are shown, and what the system said.
+//! The parts of a note: sentences with places for values, texts as they are shown, and what the system said.
 
 pub(crate) mod sentences;
 pub(crate) mod systems;

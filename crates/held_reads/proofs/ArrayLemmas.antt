@@ -1,4 +1,4 @@
--- The array of held cycles: what stands in it, and how holding one read more changes it.
+-- The array of held cycles: what its entries are, and how holding one more read changes it.
 use Rattle.std.proofs.Common.{◌≡◌, ◌≢◌, ◌<◌, ◌+◌, ◌==◌, ℕ, zero, suc, cond, List, [], ◌∷◌, ◌++◌, length, get_or, map, take, set, replicate, All, refl, sym, ◌∙◌, ap, subst, inl, inr, arith}
 use Rattle.std.specs.Prelude.{Any}
 use Rattle.std.proofs.lemmas.Bool.{cases_eq, eq-eqb, ne_eqb, cond-true, cond-false}
@@ -19,7 +19,7 @@ cycle_at held i l = get_or-map-range_with_len (held_cycle held.reads) 0 held.n i
 pub cycles_len : (held : HeldReads) → length (cycles_of held) ≡ held.n
 cycles_len held = length-map-range_with_len (held_cycle held.reads) 0 held.n
 
--- Where nothing is held all entries are the greatest number.
+-- If nothing is held, all entries are the greatest number.
 pub no_cycles : (n : ℕ) → cycles_of (record { n = n; reads = [] }) ≡ replicate n NOT_HELD
 no_cycles n = sym (fill_by_all (held_cycle []) (replicate n NOT_HELD) n 0 (length-replicate n NOT_HELD) (λ k l. get_or-replicate n k NOT_HELD 0 l))
 
@@ -34,7 +34,7 @@ is_held (r ∷ R) i l = elim (cases_eq r.item i) as (λ _. Any (λ s. (s.item �
       (suc a.0, a.1, omega (arith, a.2), a.3, (a.4.0, a.4.1 ∙ sym is))
 ]
 
--- One read more changes the entry of its item, which wasn't held, and no other.
+-- One more read changes the entry of its item, which wasn't held, and no other entry.
 pub held_more : (R : List HeardRead) (x : HeardRead) → All (λ r. r.item ≢ x.item) R → held_cycle (R ++ x ∷ []) x.item ≡ x.cycle
 held_more [] x free = cond-true (x.item == x.item) _ _ (eq-eqb x.item x.item refl)
 held_more (r ∷ R) x free =
@@ -45,7 +45,7 @@ pub held_others : (R : List HeardRead) (x : HeardRead) (i : ℕ) → x.item ≢ 
 held_others [] x i other = cond-false (x.item == i) _ _ (ne_eqb x.item i other)
 held_others (r ∷ R) x i other = ap (cond (r.item == i) r.cycle) (held_others R x i other)
 
--- The array with the new read's cycle put at its item is that of the reads with the new one.
+-- The array with the new read's cycle put at its item is the array of the reads with the new one.
 pub cycles_more : (n : ℕ) (R : List HeardRead) (x : HeardRead) (cycles new : List ℕ) → All (λ r. r.item ≢ x.item) R → x.item < n →
     cycles ≡ cycles_of (record { n = n; reads = R }) → length new ≡ n → get_or new x.item 0 ≡ x.cycle → ((k : ℕ) → k ≢ x.item → get_or new k 0 ≡ get_or cycles k 0) →
     new ≡ cycles_of (record { n = n; reads = R ++ x ∷ [] })
@@ -55,14 +55,14 @@ cycles_more n R x cycles new free within is long put kept = fill_by_all (held_cy
       | inr other ↦ kept k (λ e. other (sym e)) ∙ ap (λ xs. get_or xs k 0) is ∙ cycle_at (record { n = n; reads = R }) k l ∙ sym (held_others R x k other)
     ])
 
--- And each read is still the one by which its item is held.
+-- Each read is still the one by which its item is held.
 pub once_more : (R : List HeardRead) (x : HeardRead) → All (λ r. r.item ≢ x.item) R → All (λ r. held_cycle R r.item ≡ r.cycle) R →
     All (λ r. held_cycle (R ++ x ∷ []) r.item ≡ r.cycle) (R ++ x ∷ [])
 once_more R x free once = All-append (λ r. held_cycle (R ++ x ∷ []) r.item ≡ r.cycle) R (x ∷ [])
     (λ k d l. held_others R x _ (λ e. free k d l (sym e)) ∙ once k d l)
     (All-cons (λ r. held_cycle (R ++ x ∷ []) r.item ≡ r.cycle) x [] (held_more R x free) (λ k d l. absurd (omega arith)))
 
--- The same of the array and the places, as `hold` writes them.
+-- The same for the array and the places, as `hold` writes them.
 pub cycles_put : (n : ℕ) (R : List HeardRead) (x : HeardRead) (cycles : List ℕ) → All (λ r. r.item ≢ x.item) R → x.item < n → cycles ≡ cycles_of (record { n = n; reads = R }) →
     set cycles x.item x.cycle ≡ cycles_of (record { n = n; reads = R ++ x ∷ [] })
 cycles_put n R x cycles free within is =

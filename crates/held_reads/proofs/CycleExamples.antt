@@ -4,7 +4,7 @@ use Rattle.held_reads.specs.HeardReads.{heard_read}
 use Rattle.held_reads.specs.Searches.{is_reached}
 use Rattle.held_reads.specs.HeldCycles.{cycles_of}
 
--- Item 2 is held in cycle 5 and item 0 in cycle 7, whatever their entries are.
+-- Item 2 is held in cycle 5 and item 0 in cycle 7, for any entries.
 two_held : cycles_of (record { n = 4; reads = heard_read 2 5 (1 ∷ 0 ∷ 4 ∷ 0 ∷ []) ∷ heard_read 0 7 (6 ∷ 0 ∷ 0 ∷ 0 ∷ []) ∷ [] }) ≡ 7 ∷ 4294967295 ∷ 5 ∷ 4294967295 ∷ []
 two_held = refl
 

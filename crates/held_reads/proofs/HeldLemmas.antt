@@ -1,4 +1,4 @@
--- What is asked of the last held read: its cycle.
+-- The cycle of the last held read.
 use Rattle.std.proofs.Common.{◌≡◌, ℕ, ◌+◌, ◌-◌, ◌<◌, ◌≤◌, List, [], ◌∷◌, ◌++◌, length, get_or, take, map, refl, sym, ◌∙◌, ap, arith}
 use Rattle.std.proofs.lemmas.List.{map-append, take_more}
 use Rattle.air_history.specs.Reads.{ReadAt, last_cycle}
@@ -11,7 +11,7 @@ last_push [] s = refl
 last_push (r ∷ []) s = refl
 last_push (r ∷ t ∷ S) s = last_push (t ∷ S) s
 
--- The cycle of the last held read is that of the last place that holds one.
+-- The cycle of the last held read is that of the last place that holds a read.
 pub last_held : (places : List HeldRead) (len : ℕ) (p : HeldRead) → 0 < len → len ≤ length places → p ≡ get_or places (len - 1) p →
     p.cycle ≡ last_cycle (map read_at (map heard_of_held (take len places)))
 last_held places len p pos within e =

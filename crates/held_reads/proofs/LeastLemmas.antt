@@ -1,4 +1,4 @@
--- What a named clash is: that of a read that passes the test, and of the least item number among these.
+-- What a named clash is: among the reads that pass the test, the one with the least item number.
 use Rattle.std.proofs.Common.{◌≡◌, zero, suc, ◌≤◌, Bool, true, false, cond, nat_le, List, [], ◌∷◌, map, All, Option, Some, None, refl, ap, subst, arith}
 use Rattle.std.specs.Prelude.{Any}
 use Rattle.std.specs.List.{filter}
@@ -36,7 +36,7 @@ none_passes test (r ∷ R) e = by (test r) refl e (none_passes test R)
     by true h e rest = absurd (lesser_some r (heard_clash test R) e)
     by false h e rest = All-cons (λ r. test r ≡ false) r R h (rest e)
 
--- One read more that passes, before those that gave o.
+-- One more read that passes, put before those that gave o.
 more_passes : (test : HeardRead → Bool) (r : HeardRead) (R : List HeardRead) (o : Option Clash) (c : Clash) → test r ≡ true → heard_clash test R ≡ o →
     ((d : Clash) → o ≡ Some d → IsLeastOf test R d) → lesser (read_at r) o ≡ Some c → IsLeastOf test (r ∷ R) c
 more_passes test r R None c h s rest e =

@@ -1,4 +1,4 @@
--- One held read of cycle 4: which reads may follow it under each policy, and which answers R-Matrix allows where nothing is held.
+-- One held read of cycle 4: which reads may follow it under each policy, and which answers R-Matrix allows if nothing is held.
 use Rattle.std.proofs.Common.{◌≡◌, ◌≤◌, [], ◌∷◌, Option, Some, None, refl, inl, arith}
 use Rattle.air_base.specs.declared.verdicts.Clash.{Clash}
 use Rattle.air_base.specs.declared.verdicts.Policy.TheVariants.{FMatrix, Datacycle, RMatrix}
@@ -12,7 +12,7 @@ use Rattle.held_reads.specs.Policies.{MayFollow, IsNoneIfTaken}
 abbrev one_held : HeldReads
 one_held = record { n = 2; reads = heard_read 0 4 (0 ∷ 0 ∷ []) ∷ [] }
 
--- Item 1 in a cycle before it, and in the same.
+-- Item 1 in a cycle before it, and in the same cycle.
 abbrev before : HeardRead
 before = heard_read 1 3 (0 ∷ 0 ∷ [])
 
@@ -20,7 +20,7 @@ abbrev beside : HeardRead
 beside = heard_read 1 4 (0 ∷ 0 ∷ [])
 
 pub record Follow : Type 0 where
-  -- the order of cycles counts under R-Matrix alone
+  -- the order of cycles matters only under R-Matrix
   by_columns : MayFollow FMatrix one_held before
   by_newest : MayFollow Datacycle one_held before
   out_of_order : MayFollow RMatrix one_held before → ⊥

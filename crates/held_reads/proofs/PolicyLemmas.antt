@@ -1,4 +1,4 @@
--- Held reads under a policy: that they come in an order which it allows, and what the clash by the entries means over a history.
+-- Held reads under a policy: their order is one that the policy allows, and what the clash by the entries means over a history.
 use Rattle.std.proofs.Common.{◌≡◌, zero, suc, ◌≤◌, false, List, [], ◌∷◌, ◌++◌, map, All, Option, refl, sym, ◌∙◌, subst, arith}
 use Rattle.std.specs.Prelude.{AllPairs}
 use Rattle.std.proofs.lemmas.Bool.{ltb-false}
@@ -20,7 +20,7 @@ use Rattle.held_reads.specs.Policies.{MayFollow, IsNoneIfTaken}
 
 -- ---- the order of reads
 
--- Where cycles never fall, no read is newer than the last one.
+-- If cycles never fall, no read is newer than the last one.
 at_most_last : (R : List ReadAt) → AllPairs (λ r s. r.cycle ≤ s.cycle) R → All (λ r. r.cycle ≤ last_cycle R) R
 at_most_last [] h k d l = absurd (omega arith)
 at_most_last (r ∷ []) h zero d l = omega arith
@@ -31,13 +31,13 @@ at_most_last (r ∷ s ∷ R) h zero d l =
     omega arith
 at_most_last (r ∷ s ∷ R) h (suc k) d l = at_most_last (s ∷ R) (λ i j d a b. h (suc i) (suc j) d (omega arith) (omega arith)) k d (omega arith)
 
--- Each policy allows that nothing is held.
+-- Each policy allows that no read is held.
 pub allowed_none : (p : Policy) → IsAllowed p []
 allowed_none FMatrix = tt
 allowed_none Datacycle = tt
 allowed_none RMatrix = λ i j d a b. absurd (omega arith)
 
--- And one read more that isn't late.
+-- Each policy allows one more read that isn't late.
 pub allowed_more : (p : Policy) (R : List ReadAt) (x : ReadAt) → IsAllowed p R → is_late p R x ≡ false → IsAllowed p (R ++ x ∷ [])
 unfolding is_late
 allowed_more FMatrix R x h late = tt
@@ -53,25 +53,25 @@ not_late FMatrix held x follows = refl
 not_late Datacycle held x follows = refl
 not_late RMatrix held x follows = let le : last_cycle (map read_at held.reads) ≤ x.cycle = follows in grind arith
 
--- So the held reads with it are allowed.
+-- The policy allows the held reads with such a read.
 pub allowed_with : (p : Policy) (held : HeldReads) (x : HeardRead) → IsAllowed p (map read_at held.reads) → MayFollow p held x → IsAllowed p (map read_at held.reads ++ read_at x ∷ [])
 allowed_with p held x allowed follows = allowed_more p (map read_at held.reads) (read_at x) allowed (not_late p held x follows)
 
 -- ---- over a history
 
--- Under each policy there is no clash by the history exactly where the policy goes on with the read.
+-- Under each policy there is no clash by the history if and only if the policy continues with the read.
 none_by_history : (p : Policy) (H : List Event) (R : List ReadAt) (x : ReadAt) → All IsRead R → IsRead x → is_late p R x ≡ false → IsNoneIfTaken p H R x (clash_by_history p H R x)
 none_by_history FMatrix H R x are is late = stays_consistent H R x are is
 none_by_history Datacycle H R x are is late = stays_current H R x are is
 none_by_history RMatrix H R x are is late = takes H R x late
 
--- A clash by the entries is the one by each history that aired them.
+-- A clash by the entries is the clash by each history that aired them.
 pub told_by_history : (p : Policy) (held : HeldReads) (x : HeardRead) (answer : Option Clash) → IsAllowed p (map read_at held.reads) → MayFollow p held x → answer ≡ clash_by_entries p held.reads x →
     (H : List Event) → HaveAiredEntries (scheme_of p) held.n H held.reads x → answer ≡ clash_by_history p H (map read_at held.reads) (read_at x)
 told_by_history p held x answer allowed follows by_entries H are =
     by_entries ∙ sym (clash_told (scheme_of p) held.n H held.reads x are (allowed_with p held x allowed follows))
 
--- And it is None exactly where the policy goes on with the read.
+-- It is None if and only if the policy continues with the read.
 pub none_if_taken : (p : Policy) (held : HeldReads) (x : HeardRead) (answer : Option Clash) → IsAllowed p (map read_at held.reads) → MayFollow p held x → answer ≡ clash_by_entries p held.reads x →
     (H : List Event) → HaveAiredEntries (scheme_of p) held.n H held.reads x → IsNoneIfTaken p H (map read_at held.reads) (read_at x) answer
 none_if_taken p held x answer allowed follows by_entries H are =

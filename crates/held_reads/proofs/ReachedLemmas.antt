@@ -1,4 +1,4 @@
--- The search of the array names the least of the held reads that the entries reach: the first item is the least, and its
+-- The search of the array names the least of the held reads that the entries reach: the first item found is the least, and its
 -- entry in the array is the cycle of the one read that holds it.
 use Rattle.std.proofs.Common.{◌≡◌, ◌<◌, ◌≤◌, inl, inr, ℕ, Bool, true, false, nat_le, List, length, get_or, All, Option, Some, None, refl, sym, ◌∙◌, ap, subst, arith}
 use Rattle.std.specs.Prelude.{MatchOption}
@@ -13,7 +13,7 @@ use Rattle.held_reads.specs.declared.cycles.TheConstants.{NOT_HELD}
 use Rattle.held_reads.proofs.LeastLemmas.{none_passes, some_passes, IsLeastOf}
 use Rattle.held_reads.proofs.ArrayLemmas.{cycle_at, is_held}
 
--- The clash of the least of the reads that pass, and None where none passes.
+-- The clash of the least of the reads that pass; None if no read passes.
 abbrev pub NamesLeastOf : (HeardRead → Bool) → List HeardRead → Option Clash → Type 0
 NamesLeastOf test R o = MatchOption o (All (λ r. test r ≡ false) R) (IsLeastOf test R)
 
@@ -70,9 +70,9 @@ array_names held entries (Some c) within once sized below answer =
           not_before entries (cycles_of held) c.item r.item r.cycle first.before at high;
     }
 
--- ---- one clash alone is named
+-- ---- only one clash can be named
 
--- Where a read's cycle follows from its item, two least clashes are the same.
+-- If a read's cycle follows from its item, two least clashes are equal.
 least_once : (f : ℕ → ℕ) (test : HeardRead → Bool) (R : List HeardRead) (c e : Clash) → All (λ r. f r.item ≡ r.cycle) R → IsLeastOf test R c → IsLeastOf test R e → c ≡ e
 least_once f test R c e once n m =
     let a = n.held in
@@ -97,7 +97,7 @@ names_one f test R None (Some c) once n m = absurd (none_or_some test R c n m)
 names_one f test R (Some c) None once n m = absurd (none_or_some test R c m n)
 names_one f test R (Some c) (Some e) once n m = ap Some (least_once f test R c e once n m)
 
--- So the first clash by the array is the clash by the entries with the reads that the entries reach.
+-- The first clash by the array is the clash by the entries with the reads that the entries reach.
 pub reached_is : (held : HeldReads) (entries : List ℕ) (o : Option Clash) → All (λ r. r.item < held.n) held.reads →
     AreHeldOnce held.reads → length entries ≡ held.n → All (λ entry. entry < NOT_HELD) entries →
     IsFirstClash entries (cycles_of held) o → o ≡ heard_clash (is_reached entries) held.reads

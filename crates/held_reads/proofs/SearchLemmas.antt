@@ -1,5 +1,5 @@
--- The search for the least clash, from the first held read on: one read more names the lesser of the clash so far
--- and its own, where it passes the test.
+-- The search for the least clash, from the first held read on. If one more read passes the test, the lesser of the clash so far
+-- and its own is named.
 use Rattle.std.proofs.Common.{◌≡◌, ℕ, ◌+◌, ◌<◌, Bool, true, false, cond, nat_le, List, [], ◌∷◌, ◌++◌, length, get_or, take, map, Option, Some, None, refl, sym, ◌∙◌, ap, arith, append-nil}
 use Rattle.std.specs.List.{filter}
 use Rattle.std.proofs.lemmas.Bool.{leb-true, leb-false}
@@ -20,7 +20,7 @@ cond_some : (b : Bool) (c d : Clash) → cond b (Some c) (Some d) ≡ Some (cond
 cond_some true c d = refl
 cond_some false c d = refl
 
--- Of three clashes the least is the same whichever two are compared first.
+-- Of three clashes the least doesn't depend on which two are compared first.
 lesser_assoc : (r : ReadAt) (o : Option Clash) (c : Clash) → lesser r (Some (lesser_of o c)) ≡ Some (lesser_of (lesser r o) c)
 lesser_assoc r None c = cond_some (nat_le r.item c.item) (clash_at r) c
 lesser_assoc r (Some b) c = by (nat_le r.item b.item) (nat_le b.item c.item) (nat_le r.item c.item) refl refl refl
@@ -55,7 +55,7 @@ clash_push test R r = ap (λ S. least (map read_at S)) (filter-append test R (r 
     by true = ap least (map-append read_at (filter test R) (r ∷ [])) ∙ least_push (map read_at (filter test R)) (read_at r)
     by false = ap (λ S. least (map read_at S)) (append-nil (filter test R))
 
--- The places up to and with one that is read.
+-- The places up to the one that is read, included.
 taken_more : (places : List HeldRead) (i : ℕ) (p : HeldRead) → i < length places → p ≡ get_or places i p →
     map heard_of_held (take (i + 1) places) ≡ map heard_of_held (take i places) ++ heard_of_held p ∷ []
 taken_more places i p l e = ap (map heard_of_held) (take_more places i p l) ∙ map-append heard_of_held (take i places) (get_or places i p ∷ []) ∙ ap (λ q. map heard_of_held (take i places) ++ heard_of_held q ∷ []) (sym e)

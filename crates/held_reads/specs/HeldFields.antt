@@ -1,4 +1,4 @@
--- The fields of held reads: sixteen places, of which the first ones hold reads.
+-- The fields of held reads: sixteen places, the first of which hold reads.
 use Rattle.std.specs.Prelude.{◌≡◌, ◌<◌, ◌≤◌, length, map, take, All}
 use Rattle.air_history.specs.HeldReads.{HeldReads}
 use Rattle.held_reads.specs.declared.held.TheConstants.{ROOM}

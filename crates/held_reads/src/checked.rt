@@ -1,7 +1,7 @@
-//! The reads that an attempt holds under a policy, which the check `C` stands for.
+//! The reads that an attempt holds under a policy, whose check is `C`.
 //!
-//! Contracts see the number of items and the held reads in order. `clashes` is the clash by the entries, and by every history that
-//! aired them. The crate of a policy names this type for its own check. All memory is taken by `new`.
+//! Contracts see the number of items and the held reads in order. `clashes` gives the clash by the entries, which is the clash
+//! by every history that aired them. The crate of a policy names this type for its own check. Only `new` takes memory.
 
 ghost use Rattle.std.specs.Prelude.{◌≡◌, ◌↔◌, ℕ, ◌<◌, ◌≤◌, [], ◌∷◌, ◌++◌, List, length, map, IsNone, IfSome, IfOk, None};
 ghost use Rattle.air_history.specs.declared.histories.Event.{Event};
@@ -52,7 +52,7 @@ impl<C: PolicyCheck> CheckedReads<C> {
         })
     }
 
-    /// The number of held reads, never above the room.
+    /// The number of held reads, which is at most the room.
     pub fn len(&self) -> usize
         ensures number { result ≡ length self.now.reads }
         ensures within { result ≤ ROOM }
@@ -68,21 +68,21 @@ impl<C: PolicyCheck> CheckedReads<C> {
         self.held.last()
     }
 
-    /// Whether the held reads with one of this cycle, of whatever item, lie too far apart to be judged by ages.
+    /// Whether the held reads and a read of this cycle, of any item, are too far apart to be judged by ages.
     pub fn spans(&self, cycle: u32) -> bool
         ensures { (item : ℕ) → result ≡ spans_too_far (map read_at self.now.reads ++ record { item = item; cycle = cycle } ∷ []) }
     {
         self.held.spans(cycle)
     }
 
-    /// The cycle in which each of the `n` items is held, and the greatest `u32` where it isn't.
+    /// The cycle in which each of the `n` items is held; the greatest `u32` for an item that isn't held.
     pub fn cycles(&self) -> &[u32]
         ensures { result.now ≡ cycles_of self.now }
     {
         self.held.cycles()
     }
 
-    /// The held read of least item number that clashes with the new one.
+    /// The held read with the least item number that clashes with the new one.
     pub fn clashes(&self, item: u16, cycle: u32, entries: &[u32]) -> Option<Clash>
         requires new { IsNew self.now (heard_read item cycle entries.now) }
         requires order { MayFollow C.policy self.now (heard_read item cycle entries.now) }
@@ -90,7 +90,8 @@ impl<C: PolicyCheck> CheckedReads<C> {
         // By the entries, for every order of reads that the policy allows.
         ensures entries { result ≡ clash_by_entries C.policy self.now.reads (heard_read item cycle entries.now) }
 
-        // By each history that has these entries at their cycles, in full or, of reads that don't lie too far apart, as ages tell them.
+        // By each history that has these entries at their cycles: in full or, if the reads aren't too far apart, as ages give
+        // them.
         ensures history { let x = heard_read item cycle entries.now in (H : List Event) →
             HaveAiredEntries (scheme_of C.policy) self.now.n H self.now.reads x →
             result ≡ clash_by_history C.policy H (map read_at self.now.reads) (read_at x) }
@@ -101,7 +102,7 @@ impl<C: PolicyCheck> CheckedReads<C> {
         C::clash(&self.held, item, cycle, entries)
     }
 
-    /// Holds the new read too, after those before it, where `clashes` answered none for it; `len` tells whether there is room.
+    /// Holds the new read too, after those before it, if `clashes` answered None for it. `len` tells whether there is room.
     pub fn hold(&mut self, item: u16, cycle: u32, entries: &[u32])
         requires room { length self.old.reads < ROOM }
         requires new { IsNew self.old (heard_read item cycle entries.now) }
@@ -112,7 +113,7 @@ impl<C: PolicyCheck> CheckedReads<C> {
         self.held.hold(item, cycle, entries);
     }
 
-    /// Holds nothing any more; the room stays.
+    /// Drops all held reads; the room stays.
     pub fn clear(&mut self)
         ensures { self.new ≡ record self.old { reads = [] } }
     {

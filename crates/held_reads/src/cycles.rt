@@ -1,7 +1,7 @@
 //! The search of the held cycles, an array over the items.
 //!
-//! Where nothing is held the array has a number that no entry reaches. So one search by `first_not_below` tests the entries of
-//! a new read against all held reads at once.
+//! For an item that isn't held, the array has a number that no entry reaches. So one search by `first_not_below` tests the
+//! entries of a new read against all held reads at once.
 
 ghost use Rattle.std.specs.Prelude.{◌≡◌, length};
 ghost use Rattle.held_reads.specs.Private.FirstClash.{IsFirstClash};
@@ -9,7 +9,7 @@ ghost use Rattle.held_reads.specs.Private.FirstClash.{IsFirstClash};
 use air_base::Clash;
 use air_lanes::first_not_below;
 
-/// What stands in the array for an item that isn't held.
+/// The entry in the array of an item that isn't held.
 pub const NOT_HELD: u32 = u32::MAX;
 
 /// The clash with the first item at which the entries aren't below its held cycle; there are `n` items.

@@ -1,7 +1,7 @@
 //! Held reads with the entries that were heard with them: control columns or write vectors.
 //!
-//! Beside the list of reads stands an array of their cycles, by which one search tests new entries against all of them.
-//! Contracts see the number of items and the held reads in order. All memory is taken by `new`.
+//! With the list of reads there is an array of their cycles, by which one search tests new entries against all of them.
+//! Contracts see the number of items and the held reads in order. Only `new` takes memory.
 
 ghost use Rattle.std.specs.Prelude.{◌≡◌, ◌↔◌, ℕ, ◌<◌, ◌≤◌, ◌==◌, [], ◌∷◌, ◌++◌, length, map, All, IsNone, IfSome, IfOk};
 ghost use Rattle.air_history.specs.Ages.{spans_too_far};
@@ -62,7 +62,7 @@ impl HeldEntries {
         })
     }
 
-    /// The number of held reads, never above the room.
+    /// The number of held reads, which is at most the room.
     pub fn len(&self) -> usize
         ensures number { result ≡ length self.now.reads }
         ensures within { result ≤ ROOM }
@@ -81,7 +81,7 @@ impl HeldEntries {
         Some(self.places[self.len - 1].cycle)
     }
 
-    /// The cycle of the first held read, 0 where nothing is held.
+    /// The cycle of the first held read; 0 if nothing is held.
     pub fn first(&self) -> u32
         ensures { result ≡ first_heard self.now.reads }
     {
@@ -91,14 +91,14 @@ impl HeldEntries {
         self.places[0].cycle
     }
 
-    /// The newest cycle of the held reads, 0 where nothing is held.
+    /// The newest cycle of the held reads; 0 if nothing is held.
     pub fn newest(&self) -> u32
         ensures { result ≡ newest_heard self.now.reads }
     {
         newest_of(&self.places[..self.len])
     }
 
-    /// Whether the held reads with one of this cycle, of whatever item, lie too far apart to be judged by ages.
+    /// Whether the held reads and a read of this cycle, of any item, are too far apart to be judged by ages.
     #[tactic(auto, unfolding(air_history::specs::Ages::spans_too_far))]
     pub fn spans(&self, cycle: u32) -> bool
         ensures { (item : ℕ) → result ≡ spans_too_far (map read_at self.now.reads ++ record { item = item; cycle = cycle } ∷ []) }
@@ -106,21 +106,21 @@ impl HeldEntries {
         span_with(&self.places[..self.len], cycle) >= AGE_CAP
     }
 
-    /// The cycle in which each of the `n` items is held, and the greatest `u32` where it isn't.
+    /// The cycle in which each of the `n` items is held; the greatest `u32` for an item that isn't held.
     pub fn cycles(&self) -> &[u32]
         ensures { result.now ≡ cycles_of self.now }
     {
         &self.cycles
     }
 
-    /// Each held item is held in one cycle.
+    /// For proofs only: tells the caller that each held item is held in one cycle.
     pub fn shows_held_once(&self)
         ensures { AreHeldOnce self.now.reads }
     {
         let _places = &self.places;
     }
 
-    /// The entry of an item that was heard with the first held read of a cycle, 0 where none is of that cycle.
+    /// The entry of an item that was heard with the first held read of a cycle; 0 if no held read is of that cycle.
     pub fn first_entry(&self, cycle: u32, item: u16) -> u32
         requires { item < self.now.n }
         ensures { result ≡ entry_in self.now.reads cycle item }
@@ -128,14 +128,14 @@ impl HeldEntries {
         first_entry(&self.places[..self.len], cycle, item)
     }
 
-    /// The held read of least item number among those of a cycle.
+    /// The held read with the least item number among those of a cycle.
     pub fn least_of_cycle(&self, cycle: u32) -> Option<Clash>
         ensures { result ≡ heard_clash (λ r. r.cycle == cycle) self.now.reads }
     {
         least_of_cycle(&self.places[..self.len], cycle)
     }
 
-    /// The held read of least item number among those whose entries have the item at the cycle or later.
+    /// The held read with the least item number among those whose entries have the item at the cycle or later.
     pub fn least_having(&self, item: u16, cycle: u32) -> Option<Clash>
         requires { item < self.now.n }
         ensures { result ≡ heard_clash (has_since item cycle) self.now.reads }
@@ -143,7 +143,7 @@ impl HeldEntries {
         least_having(&self.places[..self.len], item, cycle)
     }
 
-    /// The held read of least item number among those whose cycle the entries reach.
+    /// The held read with the least item number among those whose cycle the entries reach.
     pub fn least_reached(&self, entries: &[u32]) -> Option<Clash>
         requires sized { length entries.now ≡ self.now.n }
         requires below { All (λ entry. entry < NOT_HELD) entries.now }
@@ -166,7 +166,7 @@ impl HeldEntries {
         self.len += 1;
     }
 
-    /// Holds nothing any more; the room stays.
+    /// Drops all held reads; the room stays.
     pub fn clear(&mut self)
         ensures { self.new ≡ record self.old { reads = [] } }
     {

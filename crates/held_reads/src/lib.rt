@@ -1,8 +1,8 @@
-//! The reads that an attempt holds, in order, each with the entries that were heard with it, whatever the policy.
+//! The reads that an attempt holds, in order, each with the entries that were heard with it, under any policy.
 //!
-//! `HeldEntries` keeps them, and beside them an array of the cycles in which items are held. Its searches name held reads
-//! by a test: each answers the one of least item number. The checks of the policies stand on it, each a `PolicyCheck`, and
-//! `CheckedReads` are the held reads under one of them.
+//! `HeldEntries` keeps them, with an array of the cycles in which items are held. Its searches name held reads by a test, and
+//! each gives the one with the least item number. The checks of the policies use it, each as a `PolicyCheck`; `CheckedReads`
+//! are the held reads under one of them.
 #![tactic(auto)]
 
 pub mod checked;

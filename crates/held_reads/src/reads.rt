@@ -1,6 +1,7 @@
-//! One held read, and what is asked of several: their newest cycle, their span, an entry of a cycle, and the least that passes a test.
+//! One held read, and questions about several: their newest cycle, their span, an entry of a cycle, and the least that passes a
+//! test.
 //!
-//! The reads are gone through one by one. `held` stands on it.
+//! Each call goes through the reads one by one. `held` uses them.
 
 ghost use Rattle.std.specs.Prelude.{◌≡◌, ◌<◌, ◌==◌, ℕ, [], ◌∷◌, ◌++◌, length, map, All, IfOk};
 ghost use Rattle.air_history.specs.Ages.{span};
@@ -42,7 +43,7 @@ impl HeldRead {
     }
 }
 
-/// Of a clash, where there is one, and a further one, that of lesser item number.
+/// The second clash, or the first if there is one and its item number isn't greater.
 pub fn lesser_clash(best: Option<Clash>, clash: Clash) -> Clash
     ensures { result ≡ lesser_of best clash }
 {
@@ -52,7 +53,7 @@ pub fn lesser_clash(best: Option<Clash>, clash: Clash) -> Clash
     }
 }
 
-/// The newest cycle of the reads, 0 where there is none.
+/// The newest cycle of the reads; 0 if there is none.
 pub fn newest_of(reads: &[HeldRead]) -> u32
     ensures { result ≡ newest_heard (map heard_of_held reads.now) }
 {
@@ -63,7 +64,7 @@ pub fn newest_of(reads: &[HeldRead]) -> u32
     newest
 }
 
-/// The span of the reads with one of this cycle, of whatever item.
+/// The span of the reads and one of this cycle, of any item.
 pub fn span_with(reads: &[HeldRead], cycle: u32) -> u32
     ensures { (item : ℕ) → result ≡ span (map read_at (map heard_of_held reads.now) ++ record { item = item; cycle = cycle } ∷ []) }
 {
@@ -76,7 +77,7 @@ pub fn span_with(reads: &[HeldRead], cycle: u32) -> u32
     newest - oldest
 }
 
-/// The entry of an item that was heard with the first read of the cycle, 0 where no read has it.
+/// The entry of an item that was heard with the first read of the cycle; 0 if no read is of the cycle.
 pub fn first_entry(reads: &[HeldRead], cycle: u32, item: u16) -> u32
     requires { All (λ r. item < length r.entries.items) reads.now }
     ensures { result ≡ entry_in (map heard_of_held reads.now) cycle item }
@@ -89,7 +90,7 @@ pub fn first_entry(reads: &[HeldRead], cycle: u32, item: u16) -> u32
     0
 }
 
-/// The read of least item number among those of the cycle.
+/// The read with the least item number among those of the cycle.
 #[tactic(auto, using(crate::proofs::SearchLemmas::search_hit, crate::proofs::SearchLemmas::search_miss), unfolding(air_history::specs::Clashes::least))]
 pub fn least_of_cycle(reads: &[HeldRead], cycle: u32) -> Option<Clash>
     ensures { result ≡ heard_clash (λ r. r.cycle == cycle) (map heard_of_held reads.now) }
@@ -103,7 +104,7 @@ pub fn least_of_cycle(reads: &[HeldRead], cycle: u32) -> Option<Clash>
     best
 }
 
-/// The read of least item number among those whose entries have the item at the cycle or later.
+/// The read with the least item number among those whose entries have the item at the cycle or later.
 #[tactic(auto, using(crate::proofs::SearchLemmas::search_hit, crate::proofs::SearchLemmas::search_miss), unfolding(air_history::specs::Clashes::least))]
 pub fn least_having(reads: &[HeldRead], item: u16, cycle: u32) -> Option<Clash>
     requires { All (λ r. item < length r.entries.items) reads.now }

@@ -1,5 +1,5 @@
--- Items around the catalog: those of an update stand behind one another, those of a query seven apart. None comes twice, since no step
--- between two of them is the number of items, nor twice that number.
+-- Items around the catalog: those of an update are one after another, those of a query seven apart. No item comes twice, since
+-- no distance between two of them is the number of items, or twice that number.
 use Rattle.std.proofs.Common.{◌≡◌, ◌<◌, ◌≤◌, ◌+◌, ◌*◌, ◌/◌, ◌%◌, ℕ, zero, suc, false, length, map, refl, sym, ap, ◌∙◌, arith}
 use Rattle.std.specs.Prelude.{◌==◌, ◌||◌, All}
 use Rattle.std.specs.List.{range_with_len}
@@ -11,7 +11,7 @@ use Rattle.std.proofs.lemmas.List.FromFn.{get_or-range_with_len, length-map-rang
 use Rattle.air_history.specs.UpdateRules.{has_repeat}
 use Rattle.air_model.specs.Drills.{around}
 
--- What holds of each number of a range.
+-- A property of each number of a range.
 pub range_all : (P : ℕ → Type 0) (a n : ℕ) → ((i : ℕ) → a ≤ i → i < a + n → P i) → All P (range_with_len a n)
 range_all P a n each k d below =
     let short : k < n = omega (arith, length-range_with_len a n) in
@@ -28,13 +28,13 @@ no_repeat f a (suc n) differ =
     ap (λ b. b || has_repeat rest) (list_any_none (λ y. y == f a) rest others)
     ∙ no_repeat f (a + 1) n (λ i j low lt high. differ i j (omega arith) lt (omega arith))
 
--- A number below three times n, by the place around.
+-- A number below three times n, from its remainder and its quotient.
 whole : (n z : ℕ) → 0 < n → z < 3 * n → (q : ℕ) → z / n ≡ q → (q < 3) × (z ≡ n * q + z % n)
 whole n z some few q e =
     let below = (div-lt_iff_lt-mul {k = n} {x = z} {y = 3} some).1 (omega arith) in
     (omega arith, let f : n * (z / n) ≡ n * q = ap (λ q. n * q) e in omega arith)
 
--- Two steps from one place come to different items.
+-- Different numbers of steps from one place lead to different items.
 pub apart : (n first x y : ℕ) → first < n → x < y → y < 2 * n → (x + n ≡ y → ⊥) → (first + x) % n ≡ (first + y) % n → ⊥
 apart n first x y within lt few other e = by ((first + x) / n) ((first + y) / n) (whole n (first + x) (omega arith) (omega arith) _ refl) (whole n (first + y) (omega arith) (omega arith) _ refl)
   where
@@ -58,7 +58,7 @@ pub around_within : (n first gap count : ℕ) → 0 < n → All (λ i. i < n) (a
 around_within n first gap count some =
     All-map (λ i. i < n) (λ t. (first + gap * t) % n) (range_with_len 0 count) (range_all (λ t. (first + gap * t) % n < n) 0 count (λ t low high. mod-lt (first + gap * t) some))
 
--- Up to four items that stand behind one another.
+-- Up to four items that are one after another.
 pub no_neighbour_twice : (n first count : ℕ) → first < n → 4 < n → count ≤ 4 → has_repeat (map (λ t. (first + t) % n) (range_with_len 0 count)) ≡ false
 no_neighbour_twice n first count within some few =
     no_repeat (λ t. (first + t) % n) 0 count (λ i j low lt high. apart n first i j within lt (omega arith) (λ e. omega arith))
@@ -67,7 +67,7 @@ pub no_neighbour_around : (n first count : ℕ) → first < n → 4 < n → coun
 no_neighbour_around n first count within some few =
     no_repeat (λ t. (first + 1 * t) % n) 0 count (λ i j low lt high. apart n first (1 * i) (1 * j) within (omega arith) (omega arith) (λ e. omega arith))
 
--- Up to four items that stand seven apart, in a catalog of an even number of items, 18 at least.
+-- Up to four items that are seven apart, in a catalog of an even number of items, at least 18.
 pub no_seventh_twice : (size first count : ℕ) → first < 16 + 2 * size → 1 ≤ size → count ≤ 4 → has_repeat (around (16 + 2 * size) first 7 count) ≡ false
 no_seventh_twice size first count within some few =
     no_repeat (λ t. (first + 7 * t) % (16 + 2 * size)) 0 count

@@ -1,4 +1,5 @@
--- Updates dealt to four updaters in turn, and the script that commits them: it commits as many of an updater as the updater was dealt.
+-- Updates dealt to four updaters in turn, and the script that commits them: it commits as many updates of an updater as the
+-- updater was dealt.
 use Rattle.std.proofs.Common.{◌≡◌, ◌<◌, ◌≤◌, ◌+◌, ◌*◌, ◌%◌, ◌++◌, ◌∷◌, [], ℕ, zero, suc, List, Option, Some, None, Bool, true, false, cond, length, map, get_or, refl, sym, ap, ◌∙◌, arith, inl, inr, append_assoc, set}
 use Rattle.std.specs.Prelude.{◌==◌, ◌||◌, ◌⊎◌, All, nat_lt, count_by, sum_by, if◌then◌else◌}
 use Rattle.std.specs.List.{enumerate_from, filter, flat_map, range_with_len}
@@ -11,9 +12,9 @@ use Rattle.std.proofs.lemmas.List.Elements.{All-filter, All-map, filter-append}
 use Rattle.std.proofs.lemmas.Bool.Decides.{nat_tests}
 use Rattle.std.proofs.lemmas.List.FromFn.{get_or-enumerate_from, get_or-map-range_with_len, length-enumerate_from, length-range_with_len}
 use Rattle.std.proofs.lemmas.List.Sums.{count_by-le-length, length-filter, sum_by-append, sum_by-cons, sum_by-le}
-use Rattle.air_model.specs.Decks.{count_parts}
+use Rattle.air_model.specs.Decks.{scripted_commits}
 use Rattle.air_model.specs.Drills.{dealt_to, drill_script, turn_of}
-use Rattle.item_catalog.specs.DeckLimits.{is_start_part}
+use Rattle.item_catalog.specs.DeckLimits.{is_scripted_start}
 use Rattle.item_catalog.specs.Faults.{count_starts, script_passes}
 
 -- ---- what an updater is dealt
@@ -67,23 +68,23 @@ turns_counted by a (suc n) =
     let told = sum_by-cons (λ u. cond (u % 4 == by) 1 0) a (range_with_len (a + 1) n) in
     both ∙ ap (λ c. c + sum_by (counts by) (flat_map turn_of (range_with_len (a + 1) n))) one ∙ ap (λ c. cond (a % 4 == by) 1 0 + c) rest ∙ sym told
 
-script_counted : (by n : ℕ) → count_parts by (drill_script n) ≡ turns by (range_with_len 0 n)
+script_counted : (by n : ℕ) → scripted_commits by (drill_script n) ≡ turns by (range_with_len 0 n)
 script_counted by n =
     let both = sum_by-append (counts by) (flat_map turn_of (range_with_len 0 n)) (None ∷ None ∷ []) in
     let none : sum_by (counts by) (None ∷ None ∷ []) ≡ 0 = refl in
     omega (arith, both, none, turns_counted by 0 n)
 
--- No number is the turn of an updater behind the fourth.
+-- No number is the turn of an updater after the fourth.
 no_turn : (by a n : ℕ) → 4 ≤ by → turns by (range_with_len a n) ≡ 0
 no_turn by a zero high = refl
 no_turn by a (suc n) high =
     let first : (a % 4 == by) ≡ false = ne_eqb (a % 4) by (λ e. omega (arith, mod-lt a {m = 4} (omega arith))) in
     sum_by-cons (λ u. cond (u % 4 == by) 1 0) a (range_with_len (a + 1) n) ∙ ap (λ b. cond b 1 0 + turns by (range_with_len (a + 1) n)) first ∙ omega (arith, no_turn by (a + 1) n high)
 
-pub script_fits : {A : Type 0} (xs : List A) (n by : ℕ) → length xs ≡ n → count_parts by (drill_script n) ≤ length (get_or (map (dealt_to xs) (range_with_len 0 4)) by [])
+pub script_fits : {A : Type 0} (xs : List A) (n by : ℕ) → length xs ≡ n → scripted_commits by (drill_script n) ≤ length (get_or (map (dealt_to xs) (range_with_len 0 4)) by [])
 script_fits {A} xs n by e = at (cases_lt by 4)
   where
-    at : (by < 4) ⊎ (4 ≤ by) → count_parts by (drill_script n) ≤ length (get_or (map (dealt_to xs) (range_with_len 0 4)) by [])
+    at : (by < 4) ⊎ (4 ≤ by) → scripted_commits by (drill_script n) ≤ length (get_or (map (dealt_to xs) (range_with_len 0 4)) by [])
     at (inl low) =
         let own = ap length (get_or-map-range_with_len (dealt_to xs) 0 4 by by [] low (omega arith)) in
         omega (arith, script_counted by n, own, length-dealt xs by, ap (λ n. turns by (range_with_len 0 n)) e)
@@ -166,4 +167,4 @@ below a b l = grind (arith, nat_tests)
 pub start_allowed : (script : List (Option ℕ)) → length script ≤ 5000 → script_passes script (None ∷ []) ≡ false
 start_allowed script few =
     ap (λ b. b || nat_lt 10000 (count_starts script + 1)) (below 200000 (length script + 1) (omega arith))
-    ∙ below 10000 (count_starts script + 1) (omega (arith, count_by-le-length is_start_part script))
+    ∙ below 10000 (count_starts script + 1) (omega (arith, count_by-le-length is_scripted_start script))

@@ -12,7 +12,7 @@ use Rattle.air_model.specs.Decks.{Deck, Item, Replan}
 use Rattle.item_catalog.specs.Declarations as e
 use Rattle.item_catalog.specs.Decks.{plain_item, plain_replan, with_freqs}
 use Rattle.item_catalog.specs.Settings.{settings_in}
-use Rattle.item_catalog.specs.Parts.{ReplanSaid, disks_said, last_cycle}
+use Rattle.item_catalog.specs.Parts.{ReplanSaid, disks_said, last_replan_cycle}
 use Rattle.item_catalog.specs.Private.Drafts.{DraftValue, deck_from, draft_of, with_declaration}
 use Rattle.item_catalog.specs.declared.parts.ItemPart.{ItemPart}
 use Rattle.item_catalog.specs.declared.parts.DiskPart.{DiskPart}
@@ -41,7 +41,7 @@ replan_part replan = record { cycle = replan.cycle; disks = map disk_part replan
 abbrev pub replan_parts : Deck → List ReplanSaid
 replan_parts deck = map replan_part deck.replans
 
--- The lists of the updaters and the readers that there could be more.
+-- The lists of the updaters and the readers that there could be in addition.
 abbrev pub more_updaters : Deck → List (List UpdateLists)
 more_updaters deck = replicate (MOST_UPDATERS - length deck.updates) []
 
@@ -99,7 +99,7 @@ replans_added deck =
     added replan_declaration replan_part (λ replans. draft_by (item_parts deck) (disk_parts deck) replans (replicate MOST_UPDATERS []) 0 0 [] (replicate MOST_READERS []) 0 [] [])
     (λ done r. replan_put done r (last_more done (replan_part r)) (said_back r.disks)) deck.replans []
   where
-    replan_put : (done : List ReplanSaid) (r : Replan) → last_cycle (done ++ replan_part r ∷ []) ≡ r.cycle → disks_said (map (λ d. d.size) r.disks) (map (λ d. Some d.freq) r.disks) ≡ map disk_part r.disks
+    replan_put : (done : List ReplanSaid) (r : Replan) → last_replan_cycle (done ++ replan_part r ∷ []) ≡ r.cycle → disks_said (map (λ d. d.size) r.disks) (map (λ d. Some d.freq) r.disks) ≡ map disk_part r.disks
         → with_declaration (draft_by (item_parts deck) (disk_parts deck) done (replicate MOST_UPDATERS []) 0 0 [] (replicate MOST_READERS []) 0 [] []) (replan_declaration r)
         ≡ draft_by (item_parts deck) (disk_parts deck) (done ++ replan_part r ∷ []) (replicate MOST_UPDATERS []) 0 0 [] (replicate MOST_READERS []) 0 [] []
     replan_put done r last same = rw (last, same) refl
@@ -168,7 +168,7 @@ deck_same : {i j : List Item} {d c : List DiskSpec} {u v : List (List UpdateList
     → ◌≡◌ {A = Deck} (record { items = i; disks = d; replans = f; updates = u; readers = r; queries = q; script = x; settings = t }) (record { items = j; disks = c; replans = g; updates = v; readers = r; queries = p; script = x; settings = s })
 deck_same h1 h2 h3 h4 h5 h6 = cc
 
--- Settings are those that are all set.
+-- The settings that are all set are read back as these settings.
 settings_back : (s : Settings) → settings_in (all_set s) ≡ s
 settings_back s = refl
 

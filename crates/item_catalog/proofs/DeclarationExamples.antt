@@ -17,7 +17,7 @@ use Rattle.item_catalog.specs.declared.deck.draft.settings.Setting.TheVariants a
 use Rattle.item_catalog.specs.declared.faults.FaultKind.TheVariants as fault
 use Rattle.item_catalog.specs.declared.reading.Tag.TheVariants as t
 
--- One more, where there is a number.
+-- One more, if there is a number.
 abbrev one_more : Option ℕ → Option ℕ
 one_more number = do
   n ← number
@@ -135,14 +135,14 @@ declarations = record {
   of_row = refl;
 }
 
--- A share of 100, none where it isn't set.
+-- A share of 100, and none if it isn't set.
 abbrev share_of_loss : NumberSetting
 share_of_loss = record { word = codes "loss"; least = 0; most = 100; unset = 0 }
 
 pub record SettingsSet : Type 0 where
   share : number_setting Loss ≡ share_of_loss
   hears : number_setting Hears ≡ record { word = codes "hears"; least = 1; most = 100000000; unset = 1000000 }
-  -- Delta is 0 where it isn't set, and a disk's `-` is then 1.
+  -- Delta is 0 if it isn't set, and a disk's `-` is then 1.
   no_delta : default_of Delta ≡ 0
   ten_cycles : default_of Cycles ≡ 10
   first_version : default_of Version ≡ 1

@@ -1,4 +1,4 @@
--- What the numbers of a declaration are that a record spells.
+-- What holds of the numbers of a declaration that a record spells.
 use Rattle.std.proofs.Common.{◌≡◌, ◌<◌, ◌≤◌, ◌^◌, ◌++◌, ◌∷◌, [], ℕ, List, Option, Some, None, Ok, Bool, true, false, not, refl, ap, map, nat_lt, nat_le, length, option_map, arith}
 use Rattle.std.specs.Prelude.{◌||◌, ◌==◌}
 use Rattle.std.specs.List.{list_all, list_any}
@@ -54,7 +54,7 @@ pub query_spelled : (fields : Option (List ℕ × List ℕ)) (r a : List ℕ) (r
     → number_of r ≡ Some reader → list_of number_of a ≡ Some asked → query_by fields ≡ Ok (e.DeclaredQuery reader asked)
 query_spelled fields r a reader asked f one two = rw (← f, one, two) refl
 
--- Each write that is spelled has a minus with a base alone.
+-- Each write that is spelled has a minus only with a base.
 abbrev pub sign_holds : Bool → Option ℕ → Bool
 sign_holds minus None = not minus
 sign_holds minus (Some base) = true
@@ -165,7 +165,7 @@ pub or_none : (a b : Bool) → (a || b) ≡ false → (a ≡ false) × (b ≡ fa
 or_none true b h = cc h
 or_none false b h = (refl, h)
 
--- What an update keeps to which no kind applies.
+-- What holds of an update to which no kind applies.
 pub record UpdateTested (n by given : ℕ) (rs : List ℕ) (ws : List Write) : Type 0 where
   pub reads : reaches n rs ≡ false
   pub writes : list_any (write_reaches n) ws ≡ false

@@ -1,4 +1,4 @@
--- The record that is written of a declaration whose numbers fit spells that declaration.
+-- The record that is written for a declaration whose numbers fit spells that declaration.
 use Rattle.std.proofs.Common.{◌≡◌, ◌<◌, ◌≤◌, ◌^◌, ◌++◌, ◌∷◌, [], ℕ, List, Option, Some, None, Ok, Bool, true, false, not, refl, ap, ◌∙◌, eqb, length, map, get_or, nat_lt, arith}
 use Rattle.std.specs.Prelude.{◌==◌, ◌&&◌, All}
 use Rattle.std.specs.Char.{is_ascii_digit}
@@ -36,7 +36,7 @@ use Rattle.item_catalog.specs.DeckTexts.{declaration_row, event_text, freq_text,
 
 -- ---- what fits
 
--- A number has 64 bits, where there is one.
+-- The number, if there is one, has at most 64 bits.
 abbrev pub SmallNumber : Option ℕ → Type 0
 SmallNumber None = Unit {0}
 SmallNumber (Some k) = k < 2 ^ 64
@@ -66,7 +66,7 @@ Fits (e.DeclaredSetting s) = InRange s
 digits : (k : ℕ) → k < 2 ^ 64 → (0 < length (number_text k)) × (list_all is_ascii_digit (number_text k) ≡ true)
 digits k small = number_digits (number_text k) k (text_spells k small)
 
--- Digits are no word that begins with another byte.
+-- A word that begins with a byte other than a digit isn't spelled by digits.
 no_word : (s : ℕ) (word text : List ℕ) → is_ascii_digit s ≡ false → list_all is_ascii_digit text ≡ true → (text is (s ∷ word)) ≡ false
 no_word s word [] other all = refl
 no_word s word (c ∷ rest) other all = by (c == s) refl

@@ -1,4 +1,5 @@
--- Drafts by their parts, and the sections of a deck's declarations that are added to them: one part each, updates, and queries.
+-- Drafts by their parts, and the sections of a deck's declarations that are added to them: parts one by one, updates, and
+-- queries.
 use Rattle.std.proofs.Common.{◌≡◌, ◌<◌, ◌≤◌, ◌+◌, ◌++◌, ◌∷◌, [], ℕ, zero, suc, List, Option, refl, sym, ap, ◌∙◌, append_assoc, length, map, max, replicate, get_or, arith, length-append}
 use Rattle.std.specs.Prelude.{sum_by}
 use Rattle.std.proofs.lemmas.List.{append-nil}
@@ -8,7 +9,7 @@ use Rattle.air_history.specs.UpdateLists.{UpdateLists}
 use Rattle.air_model.specs.declared.deck.ReaderPlan.{ReaderPlan}
 use Rattle.item_catalog.specs.Declarations.{Declaration}
 use Rattle.item_catalog.specs.Declarations as e
-use Rattle.item_catalog.specs.Parts.{ReplanSaid, last_cycle}
+use Rattle.item_catalog.specs.Parts.{ReplanSaid, last_replan_cycle}
 use Rattle.item_catalog.specs.Private.Drafts.{DraftValue, push_at, with_declaration}
 use Rattle.item_catalog.specs.declared.parts.ItemPart.{ItemPart}
 use Rattle.item_catalog.specs.declared.parts.DiskPart.{DiskPart}
@@ -21,7 +22,7 @@ draft_by items disks replans updates updaters count readers queries asked script
   items = items;
   disks = disks;
   replans = replans;
-  last_cycle = last_cycle replans;
+  last_replan_cycle = last_replan_cycle replans;
   updates = updates;
   updaters = updaters;
   update_count = count;
@@ -39,19 +40,20 @@ module _ {L P : Type 0} (mk : L → Declaration) (part : L → P) (at : List P �
   added [] done = ap at (sym (append-nil done))
   added (x ∷ xs) done = ap (λ d. with_all d (map mk xs)) (put done x) ∙ added xs (done ++ part x ∷ []) ∙ ap at (append_assoc done (part x ∷ []) (map part xs))
 
--- A list at a place, and one more element of it.
+-- The list at a place with one more element at its end.
 push_here : {A : Type 0} (front : List (List A)) (old : List A) (rest : List (List A)) (x : A) → push_at (front ++ old ∷ rest) (length front) x ≡ front ++ (old ++ x ∷ []) ∷ rest
 push_here [] old rest x = refl
 push_here (l ∷ front) old rest x = ap (λ ls. l ∷ ls) (push_here front old rest x)
 
--- So many empty lists, and then so many.
+-- n empty lists followed by m empty lists.
 pub no_lists : {A : Type 0} (n m : ℕ) → ◌≡◌ {A = List (List A)} (replicate (n + m) []) (replicate n [] ++ replicate m [])
 no_lists {A} zero m = let same : 0 + m ≡ m = omega arith in ap (λ k. replicate {A = List A} k []) same
 no_lists {A} (suc n) m = let same : suc n + m ≡ suc (n + m) = omega arith in ap (λ k. replicate {A = List A} k []) same ∙ ap (λ (ls : List (List A)). [] ∷ ls) (no_lists n m)
 
 -- ---- updates
 
--- One more than the number of the last updater that has an update, where the first has this number; else 0.
+-- One more than the number of the last updater that has an update, if the first updater of the list has this number; otherwise
+-- 0.
 abbrev pub updaters_named : ℕ → List UpdateLists → ℕ
 updaters_named by [] = 0
 updaters_named by (u ∷ own) = by + 1
@@ -99,7 +101,7 @@ module _ (items : List ItemPart) (disks : List DiskPart) (replans : List ReplanS
       last_same : updaters_named (length front) own ≡ updaters_named from own → max (max last (updaters_named (length front) own)) (all_named (from + 1) lists) ≡ max last (max (updaters_named from own) (all_named (from + 1) lists))
       last_same f = omega (arith, f)
 
--- The updaters that are named are all, where the last one has an update.
+-- If the last updater has an update, the updaters that are named are all.
 some_named : (from : ℕ) (lists : List (List UpdateLists)) → all_named from lists ≤ from + length lists
 some_named from [] = omega arith
 some_named from ([] ∷ others) = omega (arith, some_named (from + 1) others)

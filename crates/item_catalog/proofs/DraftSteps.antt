@@ -1,4 +1,5 @@
--- Declarations that are added to a draft in turn, none with a fault: their records stand, and spell the deck of the draft.
+-- Declarations that are added to a draft in turn, none with a fault: their records are without fault, and spell the deck of the
+-- draft.
 use Rattle.std.proofs.Common.{◌≡◌, ◌++◌, ◌∷◌, [], ℕ, List, None, refl, sym, ap, ◌∙◌, subst, append_assoc, fold, length, map, arith}
 use Rattle.std.proofs.lemmas.List.{append-nil, map-append}
 use Rattle.air_model.specs.Rows.{rows_text}
@@ -20,11 +21,11 @@ use Rattle.item_catalog.proofs.DeclarationTexts.{Fits, declaration_spelled}
 
 -- ---- drafts
 
--- A draft with declarations more.
+-- A draft with more declarations.
 abbrev pub with_all : DraftValue → List Declaration → DraftValue
 with_all d xs = fold with_declaration d xs
 
--- The numbers of each declaration fit, and no kind applies to it after those before it.
+-- The numbers of each declaration fit, and no kind applies to it after the declarations before it.
 abbrev pub Passes : DraftValue → List Declaration → Type 0
 Passes d [] = Unit {0}
 Passes d (x ∷ xs) = Fits x × (first_of (draft_tests d x) ≡ None) × Passes (with_declaration d x) xs
@@ -44,7 +45,7 @@ drafted done (x ∷ xs) =
 
 -- ---- their records
 
--- The records of declarations are without fault, and spell these.
+-- The records of declarations are without fault, and spell these declarations.
 record Stands (es : List Declaration) : Type 0 where
   faultless : NoneBefore (kinds_at (map declaration_row es)) (length (map declaration_row es))
   declarations : declarations_in (map declaration_row es) ≡ es

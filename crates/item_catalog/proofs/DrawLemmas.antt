@@ -1,4 +1,5 @@
--- What draws give: a word is below its modulus, and a draw for each number gives as many as were asked for, each as its own draw has it.
+-- What draws give: a word is below its modulus, and drawing for each number gives as many values as asked for, each from its
+-- own draw.
 use Rattle.std.proofs.Common.{◌≡◌, ◌<◌, ◌%◌, ◌+◌, ◌++◌, ◌∷◌, [], ℕ, zero, suc, List, length, map, refl, sym, ap, ◌∙◌, arith}
 use Rattle.std.specs.Prelude.{All}
 use Rattle.std.specs.List.{range_with_len}
@@ -46,7 +47,7 @@ drawn_all P one each (suc n) g =
     let before = draw_each n one g in
     All-push P before.0 (one n before.1).0 (drawn_all P one each n g) (each n before.1)
 
--- Where a part of each is known, so is the list of these parts.
+-- If a part of each is known, the list of these parts is known.
 pub drawn_parts : {A B : Type 0} (part : A → B) (told : ℕ → B) (one : ℕ → Draw A) → ((i : ℕ) (g : Lcg) → part (one i g).0 ≡ told i) → (n : ℕ) (g : Lcg) →
     map part (draw_each n one g).0 ≡ map told (range_with_len 0 n)
 unfolding draw_each

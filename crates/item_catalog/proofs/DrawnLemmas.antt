@@ -1,4 +1,4 @@
--- An update of a drill keeps the rules of updates, and a query of it those of queries.
+-- An update of a drill keeps the rules of updates, and a query of a drill those of queries.
 use Rattle.std.proofs.Common.{◌≡◌, ◌<◌, ◌≤◌, ◌+◌, ◌*◌, ◌^◌, ◌%◌, ℕ, List, Some, None, Bool, true, false, length, map, get_or, refl, sym, ap, ◌∙◌, arith, cond}
 use Rattle.std.specs.Prelude.{◌==◌, All}
 use Rattle.std.specs.List.{list_all, range_with_len}
@@ -44,7 +44,7 @@ rules : (reads : List ℕ) (writes : List Write) → length reads ≤ 16 → 1 �
 unfolding update_fault
 rules reads writes few some most a b c = rw (le-leb _ _ few, le-leb _ _ some, le-leb _ _ most, a, b, c) refl
 
--- An update by what was drawn for it.
+-- An update from what was drawn for it.
 update_by : (n k a more b : ℕ) (g : Lcg) → 4 < n → k < 3 → a < n → more < 2 → b < n →
     IsUpdate n (record { reads = around n a 1 k; writes = (draw_each (1 + more) (draw_write n k a b) g).0 })
 update_by n k a more b g wide few_reads first few_writes first_write =
@@ -106,6 +106,6 @@ update_told n k a more b writes g g1 g2 g3 g4 last e1 e2 e3 e4 e5 =
     let first : ℕ → Draw UpdateLists = λ k. (draw n >>= second k) in
     ap (λ p. go_on p first) e1 ∙ ap (λ p. go_on p (second k)) e2 ∙ ap (λ p. go_on p (third k a)) e3 ∙ ap (λ p. go_on p (fourth k a more)) e4 ∙ ap (λ p. go_on p (done k a)) e5
 
--- What was drawn for an update keeps its rules.
+-- An update from what was drawn for it keeps the rules.
 pub drawn_keeps : (n : ℕ) (reads : List ℕ) (writes : List Write) (g last : Lcg) → 4 < n → draw_update n g ≡ (record { reads = reads; writes = writes }, last) → update_fault reads writes ≡ None
 drawn_keeps n reads writes g last wide told = ap (λ (p : UpdateLists × Lcg). update_fault p.0.reads p.0.writes) (sym told) ∙ (update_drawn n g wide).rules

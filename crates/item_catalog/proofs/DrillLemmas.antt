@@ -1,4 +1,4 @@
--- The deck of a drill is well made, and within the limits: for sizes from 1 to 100.
+-- The deck of a drill is well made and within the limits, for sizes from 1 to 100.
 use Rattle.std.proofs.Common.{◌≡◌, ◌<◌, ◌≤◌, ◌-◌, ◌*◌, ◌/◌, ◌^◌, ◌∷◌, [], ℕ, List, Option, length, map, sym, ap, subst, ◌∙◌, arith, inl, refl}
 use Rattle.std.specs.Prelude.{All, sum_by}
 use Rattle.std.specs.List.{range_with_len}
@@ -14,7 +14,7 @@ use Rattle.air_model.specs.Disks.{DiskSpec}
 use Rattle.air_model.specs.Decks.{Deck, IsDeck, IsQuery, IsUpdate, Item}
 use Rattle.air_model.specs.Draws.{Draw, ◌>>=◌, draw, draw_each, generator, gives, go_on}
 use Rattle.air_model.specs.Drills.{dealt_to, draw_item, draw_query, draw_update, drill_deck, drill_disks, drill_items, drill_of, drill_script}
-use Rattle.item_catalog.specs.DeckLimits.{DiskWithin, ReaderWithin, ReplanWithin, WithinLimits, is_start_part}
+use Rattle.item_catalog.specs.DeckLimits.{DiskWithin, ReaderWithin, ReplanWithin, WithinLimits, is_scripted_start}
 use Rattle.air_model.proofs.DeckLemmas.{each_edition}
 use Rattle.item_catalog.proofs.AroundLemmas.{range_all}
 use Rattle.item_catalog.proofs.DealLemmas.{dealt_all, dealt_few, script_fits, script_short}
@@ -25,7 +25,7 @@ use Rattle.item_catalog.proofs.DrawnLemmas.{query_drawn, query_short, update_dra
 abbrev pub deck_by : List Item → List DiskSpec → List (List UpdateLists) → List ReaderPlan → List (List (List ℕ)) → List (Option ℕ) → Settings → Deck
 deck_by items disks updates readers queries script settings = record { items = items; disks = disks; replans = []; updates = updates; readers = readers; queries = queries; script = script; settings = settings }
 
--- The items, updates and queries of a drill are as many as they are to be, and each is within its limits.
+-- There are as many items, updates and queries of a drill as there must be, and each is within its limits.
 pub record AreDrawn (size : ℕ) (items : List Item) (updates : List UpdateLists) (queries : List (List (List ℕ))) : Type 0 where
   pub count : length items ≡ drill_items size
   pub values : All (λ i. i.value < 2 ^ 64) items
@@ -91,11 +91,11 @@ within seed size items updates queries seeded few d =
       queries = omega (arith, d.query_count, sum_by-le (λ (asked : List (List ℕ)). length asked) 100 queries (All-weaker (λ asked. length asked ≤ size) (λ asked. length asked ≤ 100) (λ asked l. omega arith) queries d.each_count));
       query = d.short;
       script = omega (arith, script_short (10 * size));
-      starts = omega (arith, count_by-le-length is_start_part script, script_short (10 * size));
+      starts = omega (arith, count_by-le-length is_scripted_start script, script_short (10 * size));
       settings = record { cycles = omega arith; seed = seeded; loss = omega arith; again = omega arith; late = omega arith; monitors = omega arith; some_hears = omega arith; hears = omega arith };
     }
 
--- What is drawn is so.
+-- What is drawn is like this.
 pub drawn : (size : ℕ) (g h k : Lcg) → 1 ≤ size →
     AreDrawn size (draw_each (drill_items size) (λ i. draw_item) g).0 (draw_each (10 * size) (λ u. draw_update (drill_items size)) h).0
     (draw_each 8 (λ r. draw_each size (λ q. draw_query (drill_items size))) k).0

@@ -1,4 +1,4 @@
--- The kinds that apply to declarations where one that was made before decides, and settings of which one alone is another.
+-- The kinds that apply to declarations if an earlier one decides, and settings of which only one differs.
 use Rattle.std.specs.Prelude.{◌≡◌, ℕ, List, [], ◌∷◌, Some, None, false, codes, map, refl}
 use Rattle.std.specs.List.{range_with_len}
 use Rattle.air_history.specs.UpdateRules.{has_repeat}
@@ -19,18 +19,18 @@ kinds_behind before declaration = kinds_of deck_kind_number (tests_of before dec
 abbrev replan : ℕ → Declaration
 replan cycle = e.DeclaredReplan cycle (1 ∷ []) (None ∷ [])
 
--- An update that puts 5 into item 0.
+-- An update that writes 5 to item 0.
 abbrev into_first : Declaration
 into_first = e.DeclaredUpdate 0 [] (record { item = 0; base = None; minus = false; amount = 5 } ∷ [])
 
 pub record Behind : Type 0 where
-  -- a sixteenth replan may be made, and no seventeenth: 7 is the kind of a limit
+  -- a sixteenth replan may be declared, but no seventeenth: 7 is the kind of a limit
   sixteenth_replan : kinds_behind (map replan (range_with_len 2 15)) (replan 17) ≡ []
   seventeenth_replan : kinds_behind (map replan (range_with_len 2 16)) (replan 18) ≡ 7 ∷ []
-  -- one item is enough to write to, and none isn't: 4 is the kind of what isn't declared
+  -- one item is enough to write to, and no item isn't: 4 is the kind of what isn't declared
   first_item : kinds_behind (e.DeclaredItem 0 10 1 ∷ []) into_first ≡ []
   no_item : kinds_behind [] into_first ≡ 4 ∷ []
-  -- a setting by its word, and of two settings each its own
+  -- a setting by its word, and each of two settings with its own value
   hears : name_of (codes "hears") ≡ Some Hears
   late_alone : (settings_in (setting.Number Seed 5 ∷ setting.Number Late 3 ∷ [])).late ≡ 3
   seed_alone : (settings_in (setting.Number Seed 5 ∷ setting.Number Late 3 ∷ [])).seed ≡ 5

@@ -1,4 +1,4 @@
--- Places are without fault, or there is a first faulty one, and never two.
+-- Places are without fault, or there is a first faulty one, but never both.
 use Rattle.std.proofs.Common.{◌≡◌, ◌≤◌, ℕ, zero, suc, List, [], ◌∷◌, ◌⊎◌, inl, inr, refl, sym, ap, ◌∙◌, arith}
 use Rattle.std.specs.Prelude.{All}
 use Rattle.std.proofs.lemmas.Bool.{cases_lt, cases_order}
@@ -31,7 +31,7 @@ least_of k (l ∷ ks) = by (least_of l ks)
     by : (kind : ℕ) × IsLeastKind kind (l ∷ ks) → (kind : ℕ) × IsLeastKind kind (k ∷ l ∷ ks)
     by found = elim (cases_lt found.0 k) [ inl less ↦ (found.0, least_behind k found.0 (l ∷ ks) found.1 (omega arith)) | inr more ↦ (k, least_front k found.0 (l ∷ ks) found.1 more) ]
 
--- A kind that is the least of none.
+-- No kind is the least of an empty list.
 least_none : (kind : ℕ) (kinds : List ℕ) → kinds ≡ [] → IsLeastKind kind kinds → ⊥
 least_none kind [] e least = omega (arith, least.one.1)
 least_none kind (k ∷ ks) e least = cc e
@@ -43,7 +43,7 @@ least_same kinds a b first second =
     omega (arith, below, above, second.one.2, first.one.2)
 
 module _ (kinds : ℕ → List ℕ) where
-  -- The first faulty place of some is that of more.
+  -- The first faulty place of some places is that of more places.
   pub more_places : (n m p kind : ℕ) → n ≤ m → IsFirstFault n kinds p kind → IsFirstFault m kinds p kind
   more_places n m p kind less fault = record { within = omega (arith, fault.within); first = fault.first; least = fault.least }
 
@@ -67,7 +67,7 @@ module _ (kinds : ℕ → List ℕ) where
   pub not_both : (n place kind : ℕ) → NoneBefore kinds n → IsFirstFault n kinds place kind → ⊥
   not_both n place kind none fault = least_none kind (kinds place) (none place fault.within) fault.least
 
-  -- Two first faulty places are one, and so are their least kinds.
+  -- Two first faulty places are equal, and so are their least kinds.
   pub one_place : (n p q a b : ℕ) → IsFirstFault n kinds p a → IsFirstFault n kinds q b → p ≡ q
   one_place n p q a b first second = elim (cases_order p q) [
     | inl same ↦ same

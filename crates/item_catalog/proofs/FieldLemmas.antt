@@ -10,7 +10,7 @@ field_there [] place below none = omega arith
 field_there (f ∷ fields) zero below none = cc none
 field_there (f ∷ fields) (suc place) below none = field_there fields place (omega arith) none
 
--- Lists that aren't just so long.
+-- Lists that don't have exactly this length.
 pub other_than_one : (fields : List (List ℕ)) → length fields ≢ 2 → one_of (drop 1 fields) ≡ None
 other_than_one [] h = refl
 other_than_one (a ∷ []) h = refl
@@ -41,7 +41,7 @@ other_than_four (t ∷ a ∷ b ∷ c ∷ []) h = refl
 other_than_four (t ∷ a ∷ b ∷ c ∷ d ∷ []) h = absurd (h refl)
 other_than_four (t ∷ a ∷ b ∷ c ∷ d ∷ e ∷ fields) h = refl
 
--- Lists that are, by their fields.
+-- Lists that have this length, by their fields.
 pub one_field : (fields : List (List ℕ)) (x : List ℕ) → length fields ≡ 2 → Some x ≡ field_at fields 1 → one_of (drop 1 fields) ≡ Some x
 unfolding field_at
 one_field [] x h e = absurd (omega arith)

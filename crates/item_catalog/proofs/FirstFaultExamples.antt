@@ -11,7 +11,7 @@ use Rattle.item_catalog.specs.Grammar.{RecordsFail, RecordsSpell}
 
 -- ---- the least kind of a place, and the first place
 
--- Nothing at place 0, and two kinds from place 1 on.
+-- No kind at place 0, and two kinds from place 1 on.
 abbrev from_one : ℕ → List ℕ
 from_one zero = []
 from_one (suc place) = 6 ∷ 7 ∷ []
@@ -43,7 +43,7 @@ some_before h = let e : ◌≡◌ {A = List ℕ} (6 ∷ 7 ∷ []) [] = h 1 (omeg
 is_first : IsFirstFault 3 from_one 1 6
 is_first = record { within = omega arith; first = none_before; least = is_least }
 
--- Not at a later place, nor behind the places, nor with a greater kind.
+-- A later place isn't the first, nor is one after the last place, or one with a greater kind.
 not_first : (IsFirstFault 3 from_one 2 6 → ⊥) × (IsFirstFault 1 from_one 1 6 → ⊥) × (IsFirstFault 3 from_one 1 7 → ⊥)
 not_first = (λ h. some_before h.first, λ h. let within : 1 < 1 = h.within in omega arith, λ h. not_least.0 h.least)
 
@@ -82,7 +82,7 @@ spell = record { faultless = none; parts = refl }
     none (suc (suc zero)) below = refl
     none (suc (suc (suc place))) below = absurd (omega arith)
 
--- Not without the disk, nor another deck.
+-- The records don't spell it without the disk, nor do they spell another deck.
 not_spell : (RecordsSpell (item0 ∷ []) (record small { disks = [] }) → ⊥) × (RecordsSpell (item0 ∷ disk1 ∷ []) (record small { disks = [] }) → ⊥)
 unfolding kinds_at number_of freq_of
 not_spell = (
@@ -90,7 +90,7 @@ not_spell = (
   λ h. let e : 0 ≡ 1 = ap (λ d. length d.disks) h.parts in omega (arith, e),
 )
 
--- Without a disk the end fails: the sizes come to less than the items.
+-- Without a disk the end fails: the sum of the sizes is less than the number of items.
 fail : RecordsFail (item0 ∷ []) 1 6
 unfolding kinds_at number_of
 fail = record { within = omega arith; first = before; least = is_least }

@@ -52,7 +52,7 @@ script0 = codes "script" ∷ codes "s 0 s" ∷ []
 abbrev delta3 : Row
 delta3 = codes "set" ∷ codes "delta" ∷ codes "3" ∷ []
 
--- A deck that uses every tag: the disk's `-` is 1 with one disk, whatever delta is.
+-- A deck that uses every tag: with one disk the disk's `-` is 1, for any delta.
 abbrev whole : List Row
 whole = item0 ∷ item1 ∷ disk2 ∷ update0 ∷ reader0 ∷ query0 ∷ script0 ∷ delta3 ∷ []
 
@@ -103,7 +103,7 @@ gap : kinds_at (item1 ∷ []) 0 ≡ 3 ∷ []
 unfolding kinds_at number_of
 gap = refl
 
--- An update with every kind that an update can have besides its form.
+-- An update with every kind that an update can have, except that of its form.
 all_of_an_update : kinds_at (item0 ∷ (codes "update" ∷ codes "16" ∷ codes "0 0" ∷ codes "1=0 0=1+1" ∷ []) ∷ []) 1 ≡ 4 ∷ 5 ∷ 7 ∷ 8 ∷ []
 unfolding kinds_at number_of spelled_value_write spelled_write all_some has_repeat
 all_of_an_update = refl

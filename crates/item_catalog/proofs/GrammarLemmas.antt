@@ -1,4 +1,4 @@
--- No text spells two decks, nor a deck where it has a fault.
+-- No text spells two decks, and no text with a fault spells a deck.
 use Rattle.std.proofs.Common.{◌≡◌, ◌+◌, ◌∙◌, ℕ, List, length, sym}
 use Rattle.air_model.specs.Decks.{Deck}
 use Rattle.item_catalog.specs.Records.{records_of}

@@ -1,6 +1,6 @@
--- What the parts keep that declarations declare to which no kind applies, one declaration after the other.
+-- What holds of the parts that declarations declare, added one after another, if no kind applies to any.
 --
--- `Kept` is the sum of it, and `Spelt` what a declaration is that a record spells. `KeptSteps` has the steps.
+-- `Kept` is the whole of it, and `Spelt` says what holds of a declaration that a record spells. `KeptSteps` has the steps.
 use Rattle.std.proofs.Common.{◌≡◌, ◌<◌, ◌≤◌, ◌+◌, ◌^◌, ◌++◌, ◌∷◌, [], ℕ, zero, suc, List, Option, Bool, true, false, ap, arith, get_or, length, nat_le, inl, inr, length-append}
 use Rattle.std.specs.Prelude.{All, AllPairs, sum_by}
 use Rattle.std.specs.List.{list_all, list_any}
@@ -10,7 +10,7 @@ use Rattle.std.proofs.lemmas.List.Elements.{All-append}
 use Rattle.std.proofs.lemmas.List.Sums.{sum_by-set}
 use Rattle.air_base.specs.declared.limits.TheConstants.{MOST_ASKED, MOST_CYCLES, MOST_DISKS, MOST_EVENTS, MOST_FREQ, MOST_ITEMS, MOST_QUERIES, MOST_RATE, MOST_READERS, MOST_REPLANS, MOST_SIZE, MOST_STARTS, MOST_UPDATERS, MOST_UPDATES}
 use Rattle.air_history.specs.UpdateLists.{UpdateLists}
-use Rattle.air_model.specs.Decks.{IsQuery, IsUpdate, count_parts}
+use Rattle.air_model.specs.Decks.{IsQuery, IsUpdate, scripted_commits}
 use Rattle.air_model.specs.declared.deck.ReaderPlan.{ReaderPlan}
 use Rattle.item_catalog.specs.DeckLimits.{ReaderWithin}
 use Rattle.item_catalog.specs.Private.Drafts.{DraftValue, push_at}
@@ -55,9 +55,9 @@ sum_push lists i x = elim (cases_lt i (length lists)) [
   | inr past ↦ let same : push_at lists i x ≡ lists = set_past lists i (get_or lists i [] ++ x ∷ []) past in omega (arith, ap (λ l. sum_by length l) same)
 ]
 
--- ---- what a record's declaration is by itself
+-- ---- what holds of a record's declaration alone
 
--- Its numbers fit: a value and amounts 64 bits, a setting its range; a minus has a base.
+-- The declaration's numbers fit: a value and amounts have 64 bits, a setting is in its range; a minus has a base.
 abbrev pub InRange : Setting → Type 0
 InRange (setting.Policy policy) = Unit {0}
 InRange (setting.Number name n) = ((range_of name).0 ≤ n) × (n ≤ (range_of name).1)
@@ -128,12 +128,12 @@ pub record EventsKept (updates : List (List UpdateLists)) (script : List (Option
   pub few : length script ≤ MOST_EVENTS
   pub few_starts : count_starts script ≤ MOST_STARTS
   pub updaters : list_any (option_any (nat_le MOST_UPDATERS)) script ≡ false
-  pub fits : (by : ℕ) → count_parts by script ≤ length (get_or updates by [])
+  pub fits : (by : ℕ) → scripted_commits by script ≤ length (get_or updates by [])
 
 pub record Kept (d : DraftValue) : Type 0 where
   pub items : ItemsKept d.items
   pub disks : DisksKept d.disks
-  pub replans : ReplansKept d.replans d.last_cycle
+  pub replans : ReplansKept d.replans d.last_replan_cycle
   pub updates : UpdatesKept (length d.items) d.updates d.updaters d.update_count
   pub readers : ReadersKept d.readers
   pub queries : QueriesKept (length d.items) d.queries d.query_count

@@ -1,4 +1,4 @@
--- Items that stand once each, with their marks: one more, and that there is room for it among as many as there are marks.
+-- Items without a repeat, with their marks: one more item, and that there is room for it among as many as there are marks.
 use Rattle.std.proofs.Common.{◌≡◌, ◌<◌, ◌≤◌, ◌+◌, ◌++◌, ◌∷◌, [], ℕ, List, Bool, true, false, refl, sym, ap, ◌∙◌, arith, eqb, get_or, length, map, nat_le, replicate, set, subst, take, inl, inr, ◌⊎◌}
 use Rattle.std.specs.Prelude.{◌||◌, ◌==◌}
 use Rattle.std.specs.List.{AllByRecursion, IsDistinct, list_any}
@@ -64,7 +64,7 @@ pub kept_none : KeptOnce (replicate MOST_ITEMS false) []
 unfolding has_repeat
 kept_none = record { marked = λ k within. get_or-replicate MOST_ITEMS k false false within; below = λ k there. cc there; once = refl }
 
--- One more that is declared and new is kept.
+-- One more item that is declared and new is kept.
 pub item_kept : (n : ℕ) (seen : ItemsSeen) (x : ℕ) (more : List ℕ) → x < n → among seen.items x ≡ false → more ≡ seen.items ++ x ∷ [] → record seen { items = more } ≡ see_item n seen x
 item_kept n seen x more declared free is = let known : nat_le n x ≡ false = grind (arith, nat_tests, declared) in rw (known, free, is) refl
 
@@ -75,7 +75,7 @@ write_kept n reads seen w more unread reach free is told = rw (reach, free, is, 
 pub item_inside : (n : ℕ) (w : Write) → write_reaches n w ≡ false → n ≤ MOST_ITEMS → w.item < MOST_ITEMS
 item_inside n w none few = let known : nat_le n w.item ≡ false = left_false (nat_le n w.item) _ none in grind (arith, nat_tests, known, few)
 
--- Writes are kept in an array, in front of what is nothing.
+-- Writes are kept at the front of an array; the rest of it is unused.
 module _ (marks : List Bool) (writes : List Write) (count : ℕ) (long : length marks ≡ MOST_ITEMS) (full : length writes ≡ MOST_ITEMS) (few : count ≤ MOST_ITEMS) (kept : KeptOnce marks (map written_item (take count writes)))
     (w : Write) (inside : w.item < MOST_ITEMS) (free : get_or marks w.item false ≡ false) where
   pub write_room : count < MOST_ITEMS

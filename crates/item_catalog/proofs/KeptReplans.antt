@@ -1,4 +1,4 @@
--- What the replans keep that declarations declare, with one more.
+-- What holds of the replans that declarations declare, with one more.
 use Rattle.std.proofs.Common.{◌≡◌, ◌<◌, ◌≤◌, ◌∷◌, [], ℕ, zero, suc, List, Option, None, false, arith, length, nat_lt, length-append}
 use Rattle.std.specs.Prelude.{All}
 use Rattle.std.specs.List.{list_any}
@@ -15,7 +15,7 @@ use Rattle.item_catalog.proofs.DeclarationLemmas.{or_none}
 use Rattle.item_catalog.proofs.KeptLemmas.{DiskKept, Kept, ReplanKept, all_push}
 use Rattle.item_catalog.proofs.ReplanLemmas.{replan_tested, said_len}
 
--- Disks of right sizes and frequencies.
+-- Disks with right sizes and frequencies.
 said_kept : (sizes : List ℕ) (freqs : List (Option ℕ)) → list_any (outside 1 MOST_SIZE) sizes ≡ false → list_any (option_any (outside 1 MOST_FREQ)) freqs ≡ false → All DiskKept (disks_said sizes freqs)
 said_kept [] freqs one two k d below = absurd (omega arith)
 said_kept (size ∷ sizes) [] one two k d below = absurd (omega arith)
@@ -31,7 +31,7 @@ said_kept (size ∷ sizes) (freq ∷ freqs) one two k d below =
 module _ (d : DraftValue) (k : Kept d) where
   pub kept_replan : (cycle : ℕ) (sizes : List ℕ) (freqs : List (Option ℕ)) → first_of (draft_tests d (e.DeclaredReplan cycle sizes freqs)) ≡ None → Kept (with_declaration d (e.DeclaredReplan cycle sizes freqs))
   kept_replan cycle sizes freqs none =
-      let t = replan_tested (length d.replans) d.last_cycle cycle sizes freqs none in
+      let t = replan_tested (length d.replans) d.last_replan_cycle cycle sizes freqs none in
       let replan : ReplanSaid = record { cycle = cycle; disks = disks_said sizes freqs } in
       let few = t.few in let later = t.later in let few_disks = t.few_disks in
       record {

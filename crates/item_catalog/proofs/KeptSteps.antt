@@ -1,4 +1,4 @@
--- What the parts keep that declarations declare, with one more declaration: tag by tag, and `kept_more` for all.
+-- What holds of the parts that declarations declare, with one more declaration: tag by tag, and `kept_more` for all tags.
 use Rattle.std.proofs.Common.{◌≡◌, ◌≢◌, ◌<◌, ◌≤◌, ◌+◌, ◌^◌, ◌++◌, ◌∷◌, [], ℕ, List, Option, Some, None, true, false, not, cond, ◌∙◌, refl, ap, arith, get_or, length, nat_lt, nat_le, inl, inr, ◌⊎◌, length-append}
 use Rattle.std.specs.Prelude.{◌==◌, ◌||◌, All}
 use Rattle.std.specs.List.{list_all, list_any}
@@ -11,7 +11,7 @@ use Rattle.air_base.specs.declared.limits.TheConstants.{MOST_AGE, MOST_ASKED, MO
 use Rattle.air_history.specs.declared.updates.Write.{Write}
 use Rattle.air_history.specs.UpdateLists.{UpdateLists}
 use Rattle.air_history.specs.UpdateRules.{has_repeat}
-use Rattle.air_model.specs.Decks.{IsUpdate, count_parts}
+use Rattle.air_model.specs.Decks.{IsUpdate, scripted_commits}
 use Rattle.air_model.specs.declared.deck.ReaderPlan.{ReaderPlan}
 use Rattle.item_catalog.specs.Private.Drafts.{DraftValue, draft_tests, push_at, with_declaration}
 use Rattle.item_catalog.specs.Declarations.{Declaration}
@@ -24,11 +24,11 @@ use Rattle.item_catalog.specs.declared.faults.FaultKind.TheVariants as fault
 use Rattle.item_catalog.specs.declared.parts.ItemPart.{ItemPart}
 use Rattle.item_catalog.specs.declared.deck.draft.settings.Setting.{Setting}
 use Rattle.item_catalog.proofs.DeclarationLemmas.{is_signed, none_of_one, none_of_three, none_of_two, or_none, rules_kept, update_tested}
-use Rattle.item_catalog.proofs.ScriptLemmas.{is_part_of, none_below, starts_all}
+use Rattle.item_catalog.proofs.ScriptLemmas.{is_commit_by, none_below, starts_all}
 use Rattle.item_catalog.proofs.KeptReplans.{kept_replan}
 use Rattle.item_catalog.proofs.KeptLemmas.{DiskKept, InRange, Kept, QueryKept, ReaderKept, Spelt, all_push, none_all, sum_push}
 
--- What is right for some items is right for one more.
+-- What is right for some number of items is right for one more.
 update_wider : (n : ℕ) (u : UpdateLists) → IsUpdate n u → IsUpdate (n + 1) u
 update_wider n u h = record {
   rules = h.rules;
@@ -42,7 +42,7 @@ query_wider n items h = record {
   few = h.few;
 }
 
--- One more in a list of lists.
+-- One more element in a list of lists.
 each_push : {A : Type 0} (P : A → Type 0) (lists : List (List A)) (i : ℕ) (x : A) → All (All P) lists → P x → All (All P) (push_at lists i x)
 each_push {A = A} P lists i x all here k d below = by (cases_eq k i)
   where
@@ -142,7 +142,7 @@ module _ (d : DraftValue) (k : Kept d) where
 length_push : {A : Type 0} (lists : List (List A)) (i : ℕ) (x : A) → length (push_at lists i x) ≡ length lists
 length_push lists i x = length-set lists i (get_or lists i [] ++ x ∷ [])
 
--- A list of lists loses nothing, and one that isn't pushed to stays.
+-- A push makes no list shorter, and doesn't change the lists that it isn't for.
 longer_push : {A : Type 0} (lists : List (List A)) (i k : ℕ) (x : A) → length (get_or lists k []) ≤ length (get_or (push_at lists i x) k [])
 longer_push lists i k x = elim (cases_eq k i) [
   | inl e ↦ elim (cases_lt i (length lists)) [
@@ -160,14 +160,14 @@ written n ws none k d below =
     let one = (or_none (nat_le n (get_or ws k d).item) (option_any (nat_le n) (get_or ws k d).base) (none_all (write_reaches n) ws none k d below)).0 in
     grind (arith, nat_tests, one)
 
-no_parts : (by : ℕ) (script : List (Option ℕ)) → list_any (option_any (nat_le MOST_UPDATERS)) script ≡ false → MOST_UPDATERS ≤ by → count_parts by script ≡ 0
+no_parts : (by : ℕ) (script : List (Option ℕ)) → list_any (option_any (nat_le MOST_UPDATERS)) script ≡ false → MOST_UPDATERS ≤ by → scripted_commits by script ≡ 0
 no_parts by [] none past = refl
 no_parts by (event ∷ script) none past =
     let both = or_none (option_any (nat_le MOST_UPDATERS) event) (list_any (option_any (nat_le MOST_UPDATERS)) script) none in
     let more = no_parts by script both.1 past in
-    omega (arith, sum_by-cons (λ x. cond (is_part_of by x) 1 0) event script, one event both.0)
+    omega (arith, sum_by-cons (λ x. cond (is_commit_by by x) 1 0) event script, one event both.0)
   where
-    one : (event : Option ℕ) → option_any (nat_le MOST_UPDATERS) event ≡ false → ◌≡◌ {A = ℕ} (cond (is_part_of by event) 1 0) 0
+    one : (event : Option ℕ) → option_any (nat_le MOST_UPDATERS) event ≡ false → ◌≡◌ {A = ℕ} (cond (is_commit_by by event) 1 0) 0
     one None h = refl
     one (Some who) h = let low : who < MOST_UPDATERS = grind (arith, nat_tests, h) in let other : (who == by) ≡ false = grind arith in rw other refl
 
@@ -235,7 +235,7 @@ module _ (d : DraftValue) (k : Kept d) where
 
   kept_script : (events : List (Option ℕ)) → first_of (draft_tests d (e.DeclaredScript events)) ≡ None → Kept (with_declaration d (e.DeclaredScript events))
   kept_script events none =
-      let t = none_of_two fault.Limit fault.Overdrawn (script_passes d.script events) (some_below MOST_UPDATERS (λ by. nat_lt (length (get_or d.updates by [])) (count_parts by (d.script ++ events)))) none in
+      let t = none_of_two fault.Limit fault.Overdrawn (script_passes d.script events) (some_below MOST_UPDATERS (λ by. nat_lt (length (get_or d.updates by [])) (scripted_commits by (d.script ++ events)))) none in
       let seven = or_none (list_any (option_any (nat_le MOST_UPDATERS)) events || nat_lt MOST_EVENTS (length d.script + length events)) (nat_lt MOST_STARTS (count_starts d.script + count_starts events)) t.0 in
       let front = or_none (list_any (option_any (nat_le MOST_UPDATERS)) events) (nat_lt MOST_EVENTS (length d.script + length events)) seven.0 in
       let few : length d.script + length events ≤ MOST_EVENTS = grind (arith, nat_tests, front.1) in
@@ -253,7 +253,7 @@ module _ (d : DraftValue) (k : Kept d) where
           few_starts = omega (arith, starts_all d.script events);
           updaters = updaters;
           fits = λ by. elim (cases_lt by MOST_UPDATERS) [
-            | inl below ↦ let one = none_below MOST_UPDATERS by (λ by. nat_lt (length (get_or d.updates by [])) (count_parts by (d.script ++ events))) below t.1 in grind (arith, nat_tests, one)
+            | inl below ↦ let one = none_below MOST_UPDATERS by (λ by. nat_lt (length (get_or d.updates by [])) (scripted_commits by (d.script ++ events))) below t.1 in grind (arith, nat_tests, one)
             | inr past ↦ let no = no_parts by (d.script ++ events) updaters past in omega arith
           ];
         };

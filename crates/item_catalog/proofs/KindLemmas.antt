@@ -1,4 +1,4 @@
--- The first kind whose test holds is the least of those that apply, where the tests stand by rising kind.
+-- The first kind whose test holds is the least of those that apply, if the tests are by rising kind.
 use Rattle.std.proofs.Common.{◌≡◌, ◌<◌, ◌≤◌, ◌∷◌, [], ℕ, zero, suc, List, Some, None, Result, Ok, Err, Bool, true, false, cond, refl, arith, nat_lt}
 use Rattle.std.specs.Prelude.{◌&&◌, All}
 use Rattle.std.proofs.lemmas.Bool.{and_parts}
@@ -71,7 +71,7 @@ module _ {K : Type 0} (code : K → ℕ) where
       by true f e all more = let same : t.0 ≡ kind = cc e in rw (f, ← same) (least_first (code t.0) (kinds_of code tests) all)
       by false f e all more = rw f (more e)
 
-  -- What a record spells, by the tests of that.
+  -- What a record spells, by its tests.
   pub none_spelled : {X : Type 0} (tests : X → List (K × Bool)) (spelled : Result X K) → least_kind tests spelled ≡ None → spelled_kinds code tests spelled ≡ []
   none_spelled tests (Err kind) h = cc h
   none_spelled tests (Ok x) h = none_apply (tests x) h

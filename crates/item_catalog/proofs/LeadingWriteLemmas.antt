@@ -1,4 +1,4 @@
--- The write of the first part of a text, by its leading digits and what follows these.
+-- The write of the first part of a text, by its leading digits and what follows them.
 use Rattle.std.proofs.Common.{◌≡◌, ◌≢◌, ◌∷◌, [], ℕ, List, Option, Some, None, Bool, true, false, refl, sym, ap, ◌∙◌, arith}
 use Rattle.std.specs.Prelude.{◌==◌}
 use Rattle.std.specs.Char.{is_ascii_digit}
@@ -26,7 +26,7 @@ no_amount : (item : Option ℕ) → constant item None ≡ None
 no_amount None = refl
 no_amount (Some i) = refl
 
--- What stands behind the digits is the end of the part, or a byte.
+-- What follows the digits is the end of the part, or a byte.
 module _ (text : List ℕ) where
   pub value_other_leading : (item : Option ℕ) → begins 43 (after_digits text) ≡ false → begins 45 (after_digits text) ≡ false → ends_part (after_digits text) ≡ false
       → spelled_value_write item (first_part text) ≡ None
@@ -85,7 +85,7 @@ module _ (text : List ℕ) where
       by true h = let more = behind_byte text 61 h in write_value_leading more.0 more.1 ∙ rw none (value_no_item (first_part more.0))
       by false h = write_other_leading h
 
--- What follows a part of digits alone, and of digits and a byte: these of numbers serve the writes as they are.
+-- What follows a part of only digits, and one of digits and a byte. The lemmas of numbers serve writes unchanged.
 pub after_digits_alone : (text : List ℕ) → ends_part (after_digits text) ≡ true → after_digits text ≡ after_part text
 after_digits_alone = after_ends
 

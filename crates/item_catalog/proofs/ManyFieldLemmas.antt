@@ -3,7 +3,7 @@ use Rattle.std.proofs.Common.{◌≡◌, ◌≢◌, ◌∷◌, [], ℕ, List, Op
 use Rattle.csv.specs.Records.{field_at}
 use Rattle.item_catalog.specs.RecordFields.{five_of, seven_of, six_of}
 
--- Lists that aren't just so long.
+-- Lists that don't have exactly this length.
 pub other_than_five : (fields : List (List ℕ)) → length fields ≢ 6 → five_of (drop 1 fields) ≡ None
 other_than_five [] h = refl
 other_than_five (t ∷ []) h = refl
@@ -37,7 +37,7 @@ other_than_seven (t ∷ a ∷ b ∷ c ∷ d ∷ e ∷ f ∷ []) h = refl
 other_than_seven (t ∷ a ∷ b ∷ c ∷ d ∷ e ∷ f ∷ g ∷ []) h = absurd (h refl)
 other_than_seven (t ∷ a ∷ b ∷ c ∷ d ∷ e ∷ f ∷ g ∷ i ∷ fields) h = refl
 
--- Lists that are, by their fields.
+-- Lists that have this length, by their fields.
 pub five_fields : (fields : List (List ℕ)) (x y z v w : List ℕ) → length fields ≡ 6 → Some x ≡ field_at fields 1 → Some y ≡ field_at fields 2 → Some z ≡ field_at fields 3
     → Some v ≡ field_at fields 4 → Some w ≡ field_at fields 5 → ◌≡◌ {A = Option (List ℕ × List ℕ × List ℕ × List ℕ × List ℕ)} (five_of (drop 1 fields)) (Some (x, y, z, v, w))
 unfolding field_at

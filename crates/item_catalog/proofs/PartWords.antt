@@ -1,4 +1,4 @@
--- A byte alone at the front of a list, the `s` of a start or the `-` of a frequency, and what else stands there: a number.
+-- A byte alone at the front of a list, the `s` of a start or the `-` of a frequency, and the other case: a number.
 use Rattle.std.proofs.Common.{◌≡◌, ◌∷◌, [], ℕ, suc, List, Some, None, Bool, true, false, cond, not, length, refl, sym, ap, ◌∙◌, arith, option_map, take, drop, ◌-◌}
 use Rattle.std.specs.Prelude.{◌&&◌, ◌==◌}
 use Rattle.std.proofs.lemmas.List.{take_all}

@@ -1,5 +1,6 @@
--- The kinds at the places of a deck's records that are read one by one: `added` and `none_added` are the step of a reader that
--- keeps a draft, `least_after` what it tells of a record that it refuses, `ended_good` and `ended_bad` its end.
+-- The kinds at the places of a deck's records that are read one by one. `added` and `none_added` are the step of a reader that
+-- keeps a draft, `least_after` is what the reader tells of a record that it refuses, and `ended_good` and `ended_bad` are its
+-- end.
 use Rattle.std.proofs.Common.{◌≡◌, ◌+◌, ◌++◌, ◌∷◌, [], ℕ, List, Option, Some, None, Result, Ok, Err, true, ◌∙◌, sym, refl, ap, arith, length, inl, inr}
 use Rattle.std.specs.Result.{result_ok}
 use Rattle.std.proofs.lemmas.Bool.{cases_lt}
@@ -18,11 +19,11 @@ use Rattle.item_catalog.specs.Parts.{disk_parts_in, items_in, replans_in, set_in
 use Rattle.item_catalog.specs.declared.faults.FaultKind.{FaultKind}
 use Rattle.item_catalog.proofs.DraftLemmas.{draft_more, tests_same}
 
--- The kinds of a record, or of the end, behind records.
+-- The kinds of a record, or of the end, after records.
 abbrev pub judge : List (List (List ℕ)) → Option (List (List ℕ)) → List ℕ
 judge rows row = place_kinds (declarations_in rows) row
 
--- The tests of each tag rise, and those at the end.
+-- The tests of each tag, and those at the end, are by rising kind.
 tests_rise : (before : List Declaration) (x : Declaration) → rising deck_kind_number 0 (tests_of before x) ≡ true
 tests_rise before (e.DeclaredItem id value rate) = refl
 tests_rise before (e.DeclaredDisk size freq) = refl
@@ -33,7 +34,7 @@ tests_rise before (e.DeclaredQuery reader items) = refl
 tests_rise before (e.DeclaredScript events) = refl
 tests_rise before (e.DeclaredSetting setting) = refl
 
--- A draft judges as the declarations do that it was made of.
+-- A draft judges as the declarations that it was made of.
 record_kind_same : (es : List Declaration) (spelled : Result Declaration FaultKind) → record_kind (draft_of es) spelled ≡ least_kind (tests_of es) spelled
 record_kind_same es (Err kind) = refl
 record_kind_same es (Ok x) = ap first_of (tests_same es x)

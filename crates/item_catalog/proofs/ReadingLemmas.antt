@@ -1,4 +1,4 @@
--- What is answered of a text whose first records were read: the fault of the next one, or that of the end, or the deck.
+-- What the answer is for a text whose first records were read: the fault of the next record, or that of the end, or the deck.
 use Rattle.std.proofs.Common.{◌≡◌, ◌<◌, ◌+◌, ◌++◌, ◌∷◌, [], ℕ, List, Option, Some, None, Result, Ok, Err, ◌∙◌, sym, refl, ap, subst, length, length-append, option_map, arith}
 use Rattle.std.specs.Prelude.{IfErr, IfOk}
 use Rattle.std.proofs.lemmas.List.{append-nil}
@@ -50,7 +50,7 @@ module _ (text : List ℕ) (rows : List (List (List ℕ))) (before : NoneBefore 
         let P : List (List (List ℕ)) → Type 0 = λ all. RecordsSpell all (deck_from (draft_of (declarations_in rows))) in
         subst P (sym every_row) (record { faultless = ended_good rows before h; parts = deck_same (declarations_in rows) (kept_all rows before) })
 
--- What the end answers, where the draft has what the records declare.
+-- What the end gives, if the draft has what the records declare.
 pub ok_more : {A E : Type 0} (r : Result A E) (P Q : A → Type 0) → ((x : A) → P x → Q x) → IfOk r P → IfOk r Q
 ok_more (Ok x) P Q f h = f x h
 ok_more (Err e) P Q f h = tt

@@ -1,4 +1,4 @@
--- The kinds at the places of records that are read one by one: those at a place hang on the records up to it alone.
+-- The kinds at the places of records that are read one by one: those at a place depend only on the records up to it.
 use Rattle.std.proofs.Common.{◌≡◌, ◌<◌, ◌≤◌, ◌+◌, ◌++◌, ◌∷◌, [], ℕ, zero, suc, List, Option, Some, None, ◌∙◌, refl, sym, ap, subst, arith, get_or, take, length, length-append, inl, inr}
 use Rattle.std.specs.Prelude.{slice_get}
 use Rattle.std.proofs.lemmas.Bool.{cases_lt}
@@ -19,7 +19,7 @@ get_end : {A : Type 0} (xs : List A) → slice_get xs (length xs) ≡ None
 get_end [] = refl
 get_end (x ∷ xs) = get_end xs
 
--- By the kinds of a record, if there is one, behind the records before it.
+-- From the kinds of a record, if there is one, after the records before it.
 module _ {R : Type 0} (judge : List R → Option R → List ℕ) where
   -- The kinds at a place.
   abbrev pub kinds_at : List R → ℕ → List ℕ
@@ -44,7 +44,7 @@ module _ {R : Type 0} (judge : List R → Option R → List ℕ) where
     | inr more ↦ let here : place ≡ length rows = omega (arith, length-append rows (row ∷ [])) in ap (kinds_at (rows ++ row ∷ [])) here ∙ kinds_here rows row [] ∙ none
   ]
 
-  -- And one to which some kind does, whatever stands behind it.
+  -- One more record to which some kind applies, with any records after it.
   pub refused : (rows : List R) (row : R) (rest : List R) (places kind : ℕ) → length rows < places → NoneBefore (kinds_at rows) (length rows) → IsLeastKind kind (judge rows (Some row))
       → IsFirstFault places (kinds_at (rows ++ row ∷ rest)) (length rows) kind
   refused rows row rest places kind within before least = record {
@@ -53,7 +53,7 @@ module _ {R : Type 0} (judge : List R → Option R → List ℕ) where
     least = rw (kinds_here rows row rest) least;
   }
 
-  -- What holds of no records, and of one more to which no kind applies, holds of records without fault.
+  -- What holds of no records, and of records with one more to which no kind applies, holds of records without fault.
   module _ (P : List R → Type 0) (none : P []) (more : (rows : List R) (row : R) → judge rows (Some row) ≡ [] → P rows → P (rows ++ row ∷ [])) where
     up_to : (rows : List R) (d : R) (n : ℕ) → n ≤ length rows → NoneBefore (kinds_at rows) n → P (take n rows)
     up_to rows d zero few before = none

@@ -1,4 +1,4 @@
--- What a plain reader gives is the first record that it has left, and at the end it has none.
+-- What a plain reader gives is the first record that it has left; at the end it has none.
 use Rattle.std.proofs.Common.{◌≡◌, ◌∷◌, [], ◌∙◌, ℕ, List, Option, Some, None, Bool, Bor, true, false, not, refl, sym, ap, if◌then◌else◌}
 use Rattle.std.specs.Prelude.{IsSome}
 use Rattle.csv.specs.Reading.{ReadRecord, Reached, default_config}

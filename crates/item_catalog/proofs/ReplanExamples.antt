@@ -12,7 +12,7 @@ use Rattle.item_catalog.specs.DeckTexts.{declaration_row, replan_declaration}
 use Rattle.item_catalog.specs.Faults.{declarations_in, differs_from, end_tests, kinds_at, replan_tests}
 use Rattle.item_catalog.specs.Fields.{freq_of}
 use Rattle.item_catalog.specs.Kinds.{deck_kind_number}
-use Rattle.item_catalog.specs.Parts.{ReplanSaid, disks_said, its_replan, last_cycle, replans_in}
+use Rattle.item_catalog.specs.Parts.{ReplanSaid, disks_said, its_replan, last_replan_cycle, replans_in}
 use Rattle.item_catalog.specs.RecordKinds.{kinds_of}
 use Rattle.item_catalog.specs.declared.faults.FaultKind.{FaultKind}
 use Rattle.item_catalog.specs.declared.faults.FaultKind.TheVariants as fault
@@ -34,7 +34,7 @@ rows_with more =
 abbrev fifth : List ℕ → List ℕ → List ℕ → List ℕ
 fifth cycle sizes freqs = kinds_at (rows_with (replan cycle sizes freqs ∷ [])) 4
 
--- A replan to one disk whose frequency isn't said.
+-- A replan to one disk whose frequency isn't given.
 abbrev said : ℕ → ℕ → ReplanSaid
 said cycle size = record { cycle = cycle; disks = record { size = size; freq = None } ∷ [] }
 
@@ -69,7 +69,7 @@ spelled = record {
 abbrev two_disks : Replan
 two_disks = record { cycle = 2; disks = record { size = 1; freq = 2 } ∷ record { size = 2; freq = 1 } ∷ [] }
 
--- A disk of one item, aired so often.
+-- A disk of one item, aired this often.
 abbrev one_item : ℕ → DiskSpec
 one_item freq = record { size = 1; freq = freq }
 
@@ -78,9 +78,9 @@ pub record Parts : Type 0 where
   of_replan : its_replan (e.DeclaredReplan 2 (3 ∷ []) (None ∷ [])) ≡ Some (said 2 3)
   no_replan : its_replan (e.DeclaredDisk 3 None) ≡ None
   both : replans_in (e.DeclaredReplan 2 (3 ∷ []) (None ∷ []) ∷ e.DeclaredDisk 3 None ∷ e.DeclaredReplan 5 (4 ∷ []) (None ∷ []) ∷ []) ≡ said 2 3 ∷ said 5 4 ∷ []
-  last : last_cycle (said 2 3 ∷ said 5 4 ∷ []) ≡ 5
-  no_last : last_cycle [] ≡ 0
-  -- a `-` goes by the disks of the replan, and by the deck's delta, wherever that is set
+  last : last_replan_cycle (said 2 3 ∷ said 5 4 ∷ []) ≡ 5
+  no_last : last_replan_cycle [] ≡ 0
+  -- a `-` depends on the disks of the replan, and on the deck's delta, wherever that is set
   by_own_disks : plain_replan 2 (record { cycle = 3; disks = disks_said (1 ∷ 1 ∷ 1 ∷ []) (None ∷ None ∷ Some 9 ∷ []) }) ≡ record { cycle = 3; disks = one_item 5 ∷ one_item 3 ∷ one_item 9 ∷ [] }
   by_delta : (deck_of (declarations_in (rows_with (replan (codes "3") (codes "1 1 1") (codes "- - -") ∷ (codes "set" ∷ codes "delta" ∷ codes "1" ∷ []) ∷ [])))).replans
       ≡ record { cycle = 3; disks = one_item 3 ∷ one_item 2 ∷ one_item 1 ∷ [] } ∷ []
@@ -126,7 +126,7 @@ pub record Kinds : Type 0 where
   greatest_disk : kinds (replan_tests 0 0 2 (1024 ∷ []) (Some 64 ∷ [])) ≡ []
   size_above : kinds (replan_tests 0 0 2 (1025 ∷ []) (Some 64 ∷ [])) ≡ 7 ∷ []
   eight_disks : kinds (replan_tests 0 0 2 (replicate 8 1) (replicate 8 None)) ≡ []
-  -- the end asks each replan, and the deck's disks
+  -- the end tests each replan, and the deck's disks
   differs : differs_from 3 (record { size = 2; freq = None } ∷ []) ≡ true
   second_differs : kinds (end_tests 3 (record { size = 3; freq = None } ∷ []) (said 2 3 ∷ said 3 4 ∷ []) []) ≡ 6 ∷ []
   all_add_up : kinds (end_tests 3 (record { size = 3; freq = None } ∷ []) (said 2 3 ∷ said 3 3 ∷ []) []) ≡ []

@@ -1,4 +1,4 @@
--- Replans while they are read: what no kind applies to, and the lists of which a front is kept.
+-- Replans while they are read: those to which no kind applies, and the lists of which the first parts are kept.
 use Rattle.std.proofs.Common.{◌≡◌, ◌<◌, ◌≤◌, ◌+◌, ◌++◌, ◌∷◌, [], ℕ, zero, suc, List, Option, Some, None, Ok, Bool, true, false, not, cond, refl, sym, ap, ◌∙◌, add-one, get_or, length, min, nat_le, nat_lt, take, arith}
 use Rattle.std.specs.Prelude.{◌==◌, ◌||◌}
 use Rattle.std.specs.List.{list_any}
@@ -22,7 +22,7 @@ use Rattle.item_catalog.specs.declared.faults.FaultKind.TheVariants as fault
 use Rattle.item_catalog.proofs.DeclarationLemmas.{none_of_two, or_none}
 use Rattle.item_catalog.proofs.RepeatLemmas.{or_false}
 
--- What a replan keeps to which no kind applies.
+-- What holds of a replan to which no kind applies.
 pub record ReplanTested (replans last cycle : ℕ) (ss : List ℕ) (fs : List (Option ℕ)) : Type 0 where
   pub few : replans < MOST_REPLANS
   pub from_two : 2 ≤ cycle
@@ -65,7 +65,7 @@ said_len [] freqs same = refl
 said_len (size ∷ sizes) [] same = absurd (omega arith)
 said_len (size ∷ sizes) (freq ∷ freqs) same = let more = said_len sizes freqs (omega arith) in omega arith
 
--- One disk more.
+-- One more disk.
 said_front : (k : ℕ) (sizes : List ℕ) (freqs : List (Option ℕ)) (s : ℕ) (f : Option ℕ) → k < length sizes → k < length freqs
     → disks_said (take (suc k) sizes) (take (suc k) freqs) ≡ disks_said (take k sizes) (take k freqs) ++ record { size = get_or sizes k s; freq = get_or freqs k f } ∷ []
 said_front k [] freqs s f below within = absurd (omega arith)
@@ -104,7 +104,7 @@ kept_more xs x = by (nat_le (length (kept_parts xs)) MOST_DISKS) (nat_lt (length
     by true false e f h = absurd (let low : length (kept_parts xs) ≤ MOST_DISKS = grind (arith, nat_tests, e) in let high : MOST_DISKS + 1 ≤ length (kept_parts xs) = grind (arith, nat_tests, f) in omega arith)
     by false true e f h = absurd (let low : MOST_DISKS < length (kept_parts xs) = grind (arith, nat_tests, e) in let high : length (kept_parts xs) < MOST_DISKS + 1 = grind (arith, nat_tests, f) in omega arith)
 
--- One more part of a reading.
+-- One more part that is read.
 any_push : {A : Type 0} (p : A → Bool) (xs : List A) (x : A) → list_any p (xs ++ x ∷ []) ≡ (list_any p xs || p x)
 any_push p xs x = list_any-append p xs (x ∷ []) ∙ ap (λ b. list_any p xs || b) (or_false (p x))
 
@@ -130,7 +130,7 @@ pub replan_spelled : (fields : Option (List ℕ × List ℕ × List ℕ)) (c s f
     → number_of c ≡ Some cycle → list_of number_of s ≡ Some sizes → list_of freq_of f ≡ Some freqs → replan_by fields ≡ Ok (e.DeclaredReplan cycle sizes freqs)
 replan_spelled fields c s f cycle sizes freqs same one two three = rw (← same, one, two, three) refl
 
--- ---- the kind by what was kept
+-- ---- the kind from what was kept
 
 same_tests : (p q : Bool) → (p ≡ true → q ≡ true) → (q ≡ true → p ≡ true) → p ≡ q
 same_tests true true f g = refl
@@ -141,7 +141,7 @@ same_tests false false f g = refl
 kept_len : {A : Type 0} (xs : List A) → length (kept_parts xs) ≡ min (MOST_DISKS + 1) (length xs)
 kept_len xs = length-take (MOST_DISKS + 1) xs
 
--- A list is as right for disks as what is kept of it.
+-- Whether a list is right for disks can be told from what is kept of it.
 count_same : (k n : ℕ) → k ≡ min (MOST_DISKS + 1) n → outside 1 MOST_DISKS k ≡ outside 1 MOST_DISKS n
 count_same k n e =
     let low : nat_lt k 1 ≡ nat_lt n 1 = same_tests (nat_lt k 1) (nat_lt n 1)
@@ -175,7 +175,7 @@ two_same : (p q a b : Bool) → p ≡ q → (q ≡ false → a ≡ b) → first_
 two_same p true a b e f = rw e refl
 two_same p false a b e f = rw (e, f refl) refl
 
--- The kind told by what was kept is the least of the replan.
+-- The kind that is found from what was kept is the least of the replan.
 module _ (replans last cycle : ℕ) (ss : List ℕ) (fs : List (Option ℕ)) (sizes : List ℕ) (freqs : List (Option ℕ))
     (sizes_kept : list_any (outside 1 MOST_SIZE) ss ≡ false → sizes ≡ kept_parts ss) (freqs_kept : list_any (option_any (outside 1 MOST_FREQ)) fs ≡ false → freqs ≡ kept_parts fs) where
   pub replan_seen : seen_replan_kind (list_any (outside 1 MOST_SIZE) ss || list_any (option_any (outside 1 MOST_FREQ)) fs) replans last cycle (length sizes) (length freqs) ≡ first_of (replan_tests replans last cycle ss fs)
@@ -188,7 +188,7 @@ module _ (replans last cycle : ℕ) (ss : List ℕ) (fs : List (Option ℕ)) (si
       (λ none. let a = or_none ((x || d) || ws) wf none in let b = or_none (x || d) ws a.0 in let e = or_none x d b.0 in let f = or_none (nat_lt (length ss) 1) (nat_lt MOST_DISKS (length ss)) e.1 in
       ap not (lengths_same (length sizes) (length freqs) (length ss) (length fs) (ap length (sizes_kept b.1) ∙ kept_len ss) (ap length (freqs_kept a.1) ∙ kept_len fs) (grind (arith, nat_tests, f.1))))
 
-  -- Where no kind applies, all was kept.
+  -- If no kind applies, all was kept.
   pub all_kept : first_of (replan_tests replans last cycle ss fs) ≡ None → (sizes ≡ ss) × (freqs ≡ fs)
   all_kept none =
       let t = replan_tested replans last cycle ss fs none in let few = t.few_disks in let same = t.lengths in

@@ -27,7 +27,7 @@ use Rattle.item_catalog.proofs.TestLemmas.{neither, none_two, not_outside, not_r
 abbrev pub Aired : DiskSpec → Type 0
 Aired disk = (0 < disk.size) × (0 < disk.freq)
 
--- The sizes and frequencies of disks that are right.
+-- The sizes and frequencies of valid disks.
 module _ (disks : List DiskSpec) (aired : All Aired disks) (within : All DiskWithin disks) where
   abbrev sizes : List ℕ
   sizes = map (λ d. d.size) disks
@@ -67,7 +67,7 @@ module _ (disks : List DiskSpec) (aired : All Aired disks) (within : All DiskWit
       freqs_right)
       (ap not as_many)
 
--- A replan with disks that take so many items.
+-- A replan with disks that take n items.
 record IsRight (n : ℕ) (r : Replan) : Type 0 where
   from_two : 2 ≤ r.cycle
   within_a_run : r.cycle ≤ MOST_CYCLES
@@ -79,14 +79,14 @@ pub some_disk : (disks : List DiskSpec) → 0 < sum_by (λ (d : DiskSpec). d.siz
 some_disk [] some = absurd (omega arith)
 some_disk (disk ∷ disks) some = omega arith
 
-passes : (n : ℕ) → 0 < n → (replans : List Replan) (d : DraftValue) → length d.replans + length replans ≤ MOST_REPLANS → All (IsRight n) replans → AllPairs (λ a b. a.cycle < b.cycle) replans → All (λ r. d.last_cycle < r.cycle) replans
+passes : (n : ℕ) → 0 < n → (replans : List Replan) (d : DraftValue) → length d.replans + length replans ≤ MOST_REPLANS → All (IsRight n) replans → AllPairs (λ a b. a.cycle < b.cycle) replans → All (λ r. d.last_replan_cycle < r.cycle) replans
     → Passes d (map replan_declaration replans)
 passes n some [] d few right rising later = tt
 passes n some (r ∷ replans) d few right rising later =
-    let is = All-head (IsRight n) r replans right in let above = All-head (λ (r : Replan). d.last_cycle < r.cycle) r replans later in
+    let is = All-head (IsRight n) r replans right in let above = All-head (λ (r : Replan). d.last_replan_cycle < r.cycle) r replans later in
     let disks = is.limits.disks in let high = is.within_a_run in let whole = is.sizes in (
       (omega arith, sizes_small r.disks is.aired is.limits.disk, freqs_small r.disks is.aired is.limits.disk),
-      replan_none r.disks is.aired is.limits.disk (length d.replans) d.last_cycle r.cycle (omega arith) is.from_two high above (some_disk r.disks (omega arith)) disks,
+      replan_none r.disks is.aired is.limits.disk (length d.replans) d.last_replan_cycle r.cycle (omega arith) is.from_two high above (some_disk r.disks (omega arith)) disks,
       passes n some replans (with_declaration d (replan_declaration r)) (omega (arith, length-append {A = ReplanSaid})) (All-tail (IsRight n) r replans right)
           (λ i j x less below. rising (suc i) (suc j) x (omega arith) (omega arith)) (λ i x below. rising 0 (suc i) x (omega arith) (omega arith)),
     )
@@ -104,12 +104,12 @@ module _ (deck : Deck) (made : IsDeck deck) (within : WithinLimits deck) where
       same : (i : ℕ) (x : Replan) → i < length deck.replans → get_or deck.replans i no_replan ≡ get_or deck.replans i x
       same i x below = get_or_default deck.replans i no_replan x below
 
-  pub replans_pass : (d : DraftValue) → length d.replans ≡ 0 → d.last_cycle ≡ 0 → Passes d (map replan_declaration deck.replans)
+  pub replans_pass : (d : DraftValue) → length d.replans ≡ 0 → d.last_replan_cycle ≡ 0 → Passes d (map replan_declaration deck.replans)
   replans_pass d none first =
       let few = made.few in
       passes (length deck.items) made.some deck.replans d (omega arith) all_right made.rising (λ i x below. let low = made.from_two i x below in omega arith)
 
-  -- The sizes of each add up.
+  -- The sizes of both have one sum.
   sizes_same : (disks : List DiskSpec) → sum_by (λ (d : DiskPart). d.size) (map disk_part disks) ≡ sum_by (λ (d : DiskSpec). d.size) disks
   sizes_same [] = refl
   sizes_same (disk ∷ disks) =

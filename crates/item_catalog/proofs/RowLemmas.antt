@@ -39,7 +39,7 @@ takes cfg s fields field (c ∷ rest) p h =
     by true e more = took_one (fields_after (step cfg s c).1 fields field) (step cfg s c).0 c rest p e
     by false e more = took_more c rest p (more e)
 
--- Enough turns give all records, however many more there are.
+-- Enough turns give all records, with any number of further turns.
 none_behind : (cfg : Config) (n : ℕ) → records_from cfg n st.StartRecord [] ≡ []
 unfolding records_from next_record
 none_behind cfg zero = refl
@@ -109,6 +109,6 @@ strip_short (a ∷ b ∷ c ∷ rest) = by (is_bom a b c)
     by true = omega arith
     by false = omega arith
 
--- There are at most as many records as bytes, and one more.
+-- There are at most as many records as bytes plus one.
 pub few_records : (text : List ℕ) → length (records_of text) ≤ length text + 1
 few_records text = omega (arith, few_from default_config (length (strip_bom text) + 1) st.StartRecord (strip_bom text), strip_short text)

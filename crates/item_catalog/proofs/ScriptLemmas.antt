@@ -9,35 +9,35 @@ use Rattle.std.proofs.lemmas.List.{get_or-set_same, get_or-set_other}
 use Rattle.std.proofs.lemmas.List.Folds.{list_any-append}
 use Rattle.std.proofs.lemmas.List.Sums.{sum_by-append}
 use Rattle.air_base.specs.declared.limits.TheConstants.{MOST_EVENTS, MOST_STARTS, MOST_UPDATERS}
-use Rattle.air_model.specs.Decks.{count_parts}
-use Rattle.item_catalog.specs.DeckLimits.{is_start_part}
+use Rattle.air_model.specs.Decks.{scripted_commits}
+use Rattle.item_catalog.specs.DeckLimits.{is_scripted_start}
 use Rattle.item_catalog.specs.Faults.{count_starts, script_passes, some_below}
 use Rattle.item_catalog.specs.ListTests.{option_any}
 
 -- The part is a commit of the updater.
-abbrev pub is_part_of : ℕ → Option ℕ → Bool
-is_part_of by part = option_map_or (λ who. who == by) part false
+abbrev pub is_commit_by : ℕ → Option ℕ → Bool
+is_commit_by by part = option_map_or (λ who. who == by) part false
 
-pub parts_all : (by : ℕ) (script events : List (Option ℕ)) → count_parts by (script ++ events) ≡ count_parts by script + count_parts by events
-parts_all by script events = sum_by-append (λ x. cond (is_part_of by x) 1 0) script events
+pub parts_all : (by : ℕ) (script events : List (Option ℕ)) → scripted_commits by (script ++ events) ≡ scripted_commits by script + scripted_commits by events
+parts_all by script events = sum_by-append (λ x. cond (is_commit_by by x) 1 0) script events
 
 pub starts_all : (script events : List (Option ℕ)) → count_starts (script ++ events) ≡ count_starts script + count_starts events
-starts_all script events = sum_by-append (λ x. cond (is_start_part x) 1 0) script events
+starts_all script events = sum_by-append (λ x. cond (is_scripted_start x) 1 0) script events
 
 -- The counts with one more commit.
-pub commits_more : (counts : List ℕ) (script : List (Option ℕ)) (by k : ℕ) → by < length counts → get_or counts k 0 ≡ count_parts k script → get_or counts by 0 ≡ count_parts by script
-    → get_or (set counts by (get_or counts by 0 + 1)) k 0 ≡ count_parts k (script ++ Some by ∷ [])
+pub commits_more : (counts : List ℕ) (script : List (Option ℕ)) (by k : ℕ) → by < length counts → get_or counts k 0 ≡ scripted_commits k script → get_or counts by 0 ≡ scripted_commits by script
+    → get_or (set counts by (get_or counts by 0 + 1)) k 0 ≡ scripted_commits k (script ++ Some by ∷ [])
 commits_more counts script by k below at own = elim (cases_eq k by) [
-  | inl e ↦ let one : count_parts by (Some by ∷ []) ≡ 1 = own_part by in
+  | inl e ↦ let one : scripted_commits by (Some by ∷ []) ≡ 1 = own_part by in
       rw e (get_or-set_same counts by (get_or counts by 0 + 1) 0 below ∙ omega (arith, parts_all by script (Some by ∷ [])))
   | inr differs ↦ let none = other_part by k differs in
       get_or-set_other counts by k (get_or counts by 0 + 1) 0 differs ∙ omega (arith, parts_all k script (Some by ∷ []))
 ]
   where
-    own_part : (by : ℕ) → count_parts by (Some by ∷ []) ≡ 1
+    own_part : (by : ℕ) → scripted_commits by (Some by ∷ []) ≡ 1
     own_part by = let e : (by == by) ≡ true = grind arith in rw e refl
 
-    other_part : (by k : ℕ) → (k ≡ by → ⊥) → count_parts k (Some by ∷ []) ≡ 0
+    other_part : (by k : ℕ) → (k ≡ by → ⊥) → scripted_commits k (Some by ∷ []) ≡ 0
     other_part by k differs = let e : (by == k) ≡ false = grind arith in rw e refl
 
 -- Some number below n.

@@ -1,4 +1,4 @@
--- Lists of items and of writes while they are read: one more, and what all of a list leaves.
+-- Lists of items and of writes while they are read: one more, and what is left of a whole list.
 use Rattle.std.proofs.Common.{◌≡◌, ◌++◌, ◌∷◌, [], ℕ, List, Option, Some, None, Bool, true, false, refl, sym, ap, ◌∙◌, fold, append_assoc, cond, nat_le}
 use Rattle.std.specs.Prelude.{◌||◌}
 use Rattle.std.proofs.lemmas.List.{append-nil}
@@ -24,7 +24,7 @@ pub writes_more : (n : ℕ) (reads : List ℕ) (writes : List Write) (w : Write)
 unfolding writes_seen
 writes_more n reads writes w = fold-append (see_write n reads) no_writes writes (w ∷ [])
 
--- What is known of a list of items of which all was seen.
+-- What is known of a list of items that was seen whole.
 pub record AllSeen (n : ℕ) (items : List ℕ) (seen : ItemsSeen) : Type 0 where
   pub undeclared : seen.undeclared ≡ reaches n items
   pub repeated : reaches n items ≡ false → seen.repeated ≡ has_repeat items

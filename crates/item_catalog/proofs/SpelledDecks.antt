@@ -1,4 +1,4 @@
--- A deck is spelled by its text, and what some text spells has a last updater with an update.
+-- A deck is spelled by its text; a deck that some text spells has a last updater with an update.
 use Rattle.std.proofs.Common.{◌≡◌, ◌<◌, ◌+◌, ◌∷◌, [], ℕ, List, Bool, true, false, refl, sym, ap, ◌∙◌, subst, length, map, get_or, arith}
 use Rattle.std.specs.Prelude.{◌==◌}
 use Rattle.std.specs.List.{filter_map}

@@ -1,7 +1,7 @@
--- The leading write of a list, by the numbers and signs that stand there.
+-- The leading write of a list, by the numbers and signs at its front.
 --
--- `value_number`, `value_plus`, `value_minus`, `value_other` say what follows `=` by its first number and what stands behind
--- that; `write_equals`, `write_other` and `write_digits` say the same of a whole write.
+-- `value_number`, `value_plus`, `value_minus` and `value_other` say what follows `=`, by its first number and what comes after
+-- that. `write_equals`, `write_other` and `write_digits` say the same of a whole write.
 use Rattle.std.proofs.Common.{◌≡◌, ◌≢◌, ◌++◌, ◌∷◌, [], ℕ, List, Option, Some, None, Bool, true, false, not, refl, sym, ap, ◌∙◌, arith}
 use Rattle.std.specs.Prelude.{◌==◌}
 use Rattle.std.specs.Char.{is_ascii_digit}
@@ -18,7 +18,7 @@ use Rattle.air_base.proofs.LeadingPartLemmas.{leading_all, leading_behind}
 use Rattle.air_base.proofs.LeadingNumberLemmas.{all_such, digits_then, no_number, spelled_digits}
 use Rattle.item_catalog.specs.Writes.{constant, spelled_value_write, spelled_write, write_by, write_from, write_on_base}
 
--- Texts that begin with digits and then another byte are alike in their digits, in that byte, and behind it.
+-- If texts that begin with digits and then another byte are equal, they have equal digits, that byte, and what comes after it.
 pub same_split : (a b : List ℕ) (x y : ℕ) (q r : List ℕ) → list_all is_ascii_digit a ≡ true → list_all is_ascii_digit b ≡ true
     → is_ascii_digit x ≡ false → is_ascii_digit y ≡ false → a ++ x ∷ q ≡ b ++ y ∷ r → (a ≡ b) × (x ≡ y) × (q ≡ r)
 same_split [] [] x y q r da db dx dy e = (refl, cc e, cc e)
@@ -64,7 +64,7 @@ constant_none : (item : Option ℕ) → constant item None ≡ None
 constant_none None = refl
 constant_none (Some i) = refl
 
--- A value has no write where no way to cut it gives one.
+-- A value has no write if no two parts of it give one.
 abbrev Never : ℕ → Bool → Option ℕ → List ℕ → Type 0
 Never s minus item v = (p q : List ℕ) → v ≡ p ++ s ∷ q → write_on_base minus item (number_of p) (number_of q) ≡ None
 
@@ -77,7 +77,7 @@ value_none item v plus minus whole = by (two_of (parts_at 43 v)) (two_of (parts_
     by None (Some f) e m = minus f.0 f.1 m
     by None None e m = rw whole (constant_none item)
 
--- A cut at one byte of a text that begins with digits and another byte, or with that byte.
+-- The two parts at one byte of a text that begins with digits and another byte, or with that byte.
 module _ (item : Option ℕ) (a : List ℕ) (x : ℕ) (c : List ℕ) (digits : list_all is_ascii_digit a ≡ true) (other : is_ascii_digit x ≡ false) where
   never_else : (s : ℕ) (minus : Bool) → is_ascii_digit s ≡ false → x ≢ s → Never s minus item (a ++ x ∷ c)
   never_else s minus sign differs p q e = by (number_of p) refl
@@ -146,7 +146,7 @@ value_again item v again = value_none item v (never 43 false refl refl) (never 4
             ∙ rw (digits_are_not 61 refl p (spelled_digits p m f), digits_are_not 61 refl q (spelled_digits q n g), differs) refl in
             cc (all, again)
 
--- A write by its digits and what stands behind them.
+-- A write by its digits and what comes after them.
 pub write_equals : (a v : List ℕ) → list_all is_ascii_digit a ≡ true → spelled_write (a ++ 61 ∷ v) ≡ spelled_value_write (number_of a) v
 unfolding spelled_write
 write_equals a v digits = rw (part_then 61 a v (digits_are_not 61 refl a digits)) (by (list_all (is_not 61) v) refl)

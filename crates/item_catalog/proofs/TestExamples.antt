@@ -1,5 +1,5 @@
--- Which parts declarations make, and which kinds apply to single declarations, computed at the ends of the limits; and the first fault of
--- small decks.
+-- Which parts declarations make, and which kinds apply to single declarations, computed at the ends of the limits; and the
+-- first fault of small decks.
 use Rattle.std.proofs.Common.{◌≡◌, ◌==◌, ℕ, List, [], ◌∷◌, Some, None, true, false, Bool, refl}
 use Rattle.std.specs.Prelude.{Ok, Err, codes}
 use Rattle.air_base.specs.Numbers.{number_of}
@@ -8,7 +8,7 @@ use Rattle.air_history.specs.declared.updates.Write.{Write}
 use Rattle.air_history.specs.UpdateRules.{has_repeat}
 use Rattle.item_catalog.specs.Declarations as e
 use Rattle.item_catalog.specs.Declarations.{Declaration}
-use Rattle.item_catalog.specs.DeckLimits.{is_start_part}
+use Rattle.item_catalog.specs.DeckLimits.{is_scripted_start}
 use Rattle.item_catalog.specs.Decks.{deck_of, for_each, plain_item, with_freqs}
 use Rattle.item_catalog.specs.Faults.{count_starts, disk_tests, end_tests, item_tests, kinds_after, place_kinds, query_tests, reader_tests, script_passes, script_tests, set_tests, some_below, tests_of, update_tests}
 use Rattle.item_catalog.specs.Kinds.{deck_kind_number}
@@ -21,7 +21,7 @@ use Rattle.item_catalog.specs.declared.deck.draft.settings.Setting.TheVariants a
 use Rattle.item_catalog.specs.declared.faults.FaultKind.{FaultKind}
 use Rattle.item_catalog.specs.declared.faults.FaultKind.TheVariants as fault
 
--- A write to item 3 of item 4 less 5.
+-- A write of item 4 minus 5 to item 3.
 abbrev less : Write
 less = record { item = 3; base = Some 4; minus = true; amount = 5 }
 
@@ -56,12 +56,12 @@ pub record Parts : Type 0 where
   whole_script : script_in all ≡ None ∷ Some 2 ∷ None ∷ []
   of_setting : its_setting (e.DeclaredSetting (setting.Number Loss 3)) ≡ Some (setting.Number Loss 3)
   one_setting : set_in all ≡ setting.Number Loss 3 ∷ []
-  start_part : is_start_part None ≡ true
-  commit_part : is_start_part (Some 0) ≡ false
+  start_part : is_scripted_start None ≡ true
+  commit_part : is_scripted_start (Some 0) ≡ false
   both_starts : count_starts (None ∷ Some 2 ∷ None ∷ []) ≡ 2
   each : for_each {A = ℕ} 3 (λ n. n) ≡ 0 ∷ 1 ∷ 2 ∷ []
   plain : plain_item (record { value = 10; rate = 1 }) ≡ record { value = 10; rate = 1 }
-  -- Of three disks without a number, delta being 2, and of two where it isn't set.
+  -- Three disks without a number, with a delta of 2, and two if delta isn't set.
   by_delta : with_freqs 2 (record { size = 1; freq = None } ∷ record { size = 2; freq = None } ∷ record { size = 3; freq = Some 9 } ∷ [])
       ≡ record { size = 1; freq = 5 } ∷ record { size = 2; freq = 3 } ∷ record { size = 3; freq = 9 } ∷ []
   without_delta : (deck_of (e.DeclaredDisk 1 None ∷ e.DeclaredDisk 2 None ∷ [])).disks ≡ record { size = 1; freq = 1 } ∷ record { size = 2; freq = 1 } ∷ []

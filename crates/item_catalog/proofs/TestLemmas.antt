@@ -1,4 +1,4 @@
--- Tests that do not hold, one by one and as the kinds of a record.
+-- Tests that don't hold, one by one and as the kinds of a record.
 use Rattle.std.proofs.Common.{◌≡◌, ◌<◌, ◌≤◌, ◌∷◌, [], ℕ, List, None, Bool, false, refl, get_or, nat_le, nat_lt, arith}
 use Rattle.std.specs.Prelude.{◌||◌, All}
 use Rattle.std.proofs.lemmas.Bool.Decides.{nat_tests}

@@ -31,7 +31,7 @@ its_text : deck_text deck ≡
 unfolding deck deck_text rows_text number_text escaped fields_text is_blank
 its_text = refl
 
--- With a replan to two disks it has one record more.
+-- With a replan to two disks it has one more record.
 replanned_text : deck_text (record deck { replans = record { cycle = 5; disks = record { size = 1; freq = 2 } ∷ record { size = 1; freq = 1 } ∷ [] } ∷ [] }) ≡
     line (codes "item,0,10,1") ++ line (codes "item,1,20,1") ++ line (codes "disk,2,1") ++ line (codes "replan,5,1 1,2 1") ++ line (codes "update,0,1,0=1+5") ++ line (codes "reader,0,0,1")
     ++ line (codes "query,0,0 1") ++ line (codes "script,s 0") ++ line (codes "set,policy,F") ++ line (codes "set,version,1") ++ line (codes "set,cycles,10") ++ line (codes "set,seed,0")

@@ -25,7 +25,7 @@ use Rattle.item_catalog.proofs.DeclarationTexts.{BaseFits, Fits, WriteFits}
 use Rattle.item_catalog.proofs.DraftSteps.{Passes, passes_both, with_all}
 use Rattle.item_catalog.proofs.TestLemmas.{all_reached, neither, none_four, not_less, not_outside, not_reached}
 
--- What an update keeps by its rules.
+-- What holds of an update by its rules.
 record RulesKept (u : UpdateLists) : Type 0 where
   few_reads : length u.reads ≤ MOST_READS
   some_write : 1 ≤ length u.writes
@@ -121,7 +121,7 @@ own_pass n by few low (u ∷ own) d at room all =
       own_pass n by few low own (with_declaration d (update_declaration by u)) at (omega arith) (All-tail (IsUpdate n) u own all),
     )
 
--- Updates leave the items as they are, and are counted.
+-- Updates leave the items unchanged, and are counted.
 own_counts : (by : ℕ) (own : List UpdateLists) (d : DraftValue)
     → (length (with_all d (map (update_declaration by) own)).items ≡ length d.items) × ((with_all d (map (update_declaration by) own)).update_count ≡ d.update_count + length own)
 own_counts by [] d = (refl, omega arith)

@@ -11,7 +11,7 @@ use Rattle.std.proofs.lemmas.List.Sums.{sum_by-cons}
 use Rattle.std.proofs.lemmas.Nat.{mul-le}
 use Rattle.air_base.specs.declared.limits.TheConstants.{MOST_ASKED, MOST_CYCLES, MOST_DELTA, MOST_DISKS, MOST_FREQ, MOST_RATE, MOST_SIZE, MOST_UPDATERS}
 use Rattle.air_model.specs.Buckets.{most_count}
-use Rattle.air_model.specs.Decks.{Deck, IsDeck, IsQuery, IsUpdate, Item, Replan, count_parts}
+use Rattle.air_model.specs.Decks.{Deck, IsDeck, IsQuery, IsUpdate, Item, Replan, scripted_commits}
 use Rattle.air_history.specs.UpdateLists.{UpdateLists}
 use Rattle.air_model.specs.declared.deck.ReaderPlan.{ReaderPlan}
 use Rattle.air_model.specs.declared.deck.Settings.{Settings}
@@ -82,7 +82,7 @@ one_or_two (suc zero) low high = inl refl
 one_or_two (suc (suc zero)) low high = inr refl
 one_or_two (suc (suc (suc v))) low high = absurd (omega arith)
 
--- The version is one that there is.
+-- The version is one that exists.
 known_version : (set : List Setting) → All InRange set → (number_in n.Version set ≡ 1) ⊎ (number_in n.Version set ≡ 2)
 known_version set all = let fits = number_fits n.Version set all in one_or_two (number_in n.Version set) fits.0 fits.1
 
@@ -145,7 +145,7 @@ take_for_each f a (suc n) (suc m) less = ap (λ l. f a ∷ l) (take_for_each f (
 
 -- ---- the deck
 
--- What the end asks of the parts.
+-- What the end requires of the parts.
 record Ended (d : DraftValue) : Type 0 where
   sizes : sum_by (λ x. x.size) d.disks ≡ length d.items
   replans : All (λ r. sum_by (λ x. x.size) r.disks ≡ length d.items) d.replans
@@ -205,7 +205,7 @@ module _ (d : DraftValue) (k : Kept d) (end : first_of (end_tests (length d.item
   queries_len : length (take (length d.readers) d.queries) ≡ length d.readers
   queries_len = length-take-le (length d.readers) d.queries (omega (arith, k.readers.few, k.queries.lists))
 
-  fits : (by : ℕ) → count_parts by d.script ≤ length (get_or (take d.updaters d.updates) by [])
+  fits : (by : ℕ) → scripted_commits by d.script ≤ length (get_or (take d.updaters d.updates) by [])
   fits by = elim (cases_lt by d.updaters) [
     | inl below ↦ let same = get_or-take d.updaters d.updates by [] below in omega (arith, k.script.fits by, ap length same)
     | inr past ↦ omega (arith, k.script.fits by, k.updates.past by past)

@@ -1,4 +1,4 @@
--- Lists of writes of which all was seen, and what the tests of an update and of a query say by what was seen.
+-- Lists of writes that were seen whole, and what the tests of an update and of a query give from what was seen.
 use Rattle.std.proofs.Common.{◌≡◌, ◌++◌, ◌∷◌, [], ℕ, List, None, Bool, true, false, refl, sym, ap, ◌∙◌, fold, append_assoc, cond, nat_le, map}
 use Rattle.std.specs.Prelude.{◌||◌}
 use Rattle.std.specs.List.{list_any}
@@ -20,7 +20,7 @@ wide n writes = list_any (write_reaches n) writes
 abbrev twice : List Write → Bool
 twice writes = has_repeat (map written_item writes)
 
--- What is known of a list of writes of which all was seen.
+-- What is known of a list of writes that was seen whole.
 pub record AllWritesSeen (n : ℕ) (reads : List ℕ) (writes : List Write) (seen : WritesSeen) : Type 0 where
   pub undeclared : seen.undeclared ≡ list_any (write_reaches n) writes
   pub repeated : list_any (write_reaches n) writes ≡ false → seen.repeated ≡ has_repeat (map written_item writes)
@@ -93,7 +93,7 @@ pub all_writes_seen : (n : ℕ) (reads : List ℕ) (writes : List Write) → All
 unfolding writes_seen has_repeat
 all_writes_seen n reads writes = all_from n reads [] writes no_writes (record { undeclared = refl; repeated = λ none. refl; kept = λ none. λ once. refl; unread = λ none. λ once. refl })
 
--- The kind of an update by what was seen of its lists.
+-- The kind of an update, from what was seen of its lists.
 module _ (n : ℕ) (rs : List ℕ) (ws : List Write) (reads : ItemsSeen) (writes : WritesSeen) (known : AllSeen n rs reads) (written : AllWritesSeen n reads.items ws writes) where
   kind_at : (by given : ℕ) (a b c d : Bool) → reaches n rs ≡ a → wide n ws ≡ b → has_repeat rs ≡ c → twice ws ≡ d → seen_update_kind reads writes by given ≡ first_of (update_tests n given by rs ws)
   kind_at by given true b c d e f g h = rw (known.undeclared, e) refl
@@ -106,7 +106,7 @@ module _ (n : ℕ) (rs : List ℕ) (ws : List Write) (reads : ItemsSeen) (writes
   pub kind_seen : (by given : ℕ) → seen_update_kind reads writes by given ≡ first_of (update_tests n given by rs ws)
   kind_seen by given = kind_at by given (reaches n rs) (wide n ws) (has_repeat rs) (twice ws) refl refl refl refl
 
-  -- Where no kind applies, what was kept is the lists.
+  -- If no kind applies, what was kept is the lists.
   kept_at : (by given : ℕ) (a b c d : Bool) → reaches n rs ≡ a → wide n ws ≡ b → has_repeat rs ≡ c → twice ws ≡ d → first_of (update_tests n given by rs ws) ≡ None → (reads.items ≡ rs) × (writes.writes ≡ ws)
   kept_at by given true b c d e f g h none = cc (rw e at none)
   kept_at by given false true c d e f g h none = cc (rw (e, f) at none)
@@ -124,7 +124,7 @@ pub update_kept : (n : ℕ) (rs : List ℕ) (ws : List Write) (by given : ℕ) �
     → ((items_seen n rs).items ≡ rs) × ((writes_seen n (items_seen n rs).items ws).writes ≡ ws)
 update_kept n rs ws by given none = lists_kept n rs ws (items_seen n rs) (writes_seen n (items_seen n rs).items ws) (all_seen n rs) (all_writes_seen n (items_seen n rs).items ws) by given none
 
--- The same of a query.
+-- The same for a query.
 module _ (n : ℕ) (asked : List ℕ) (seen : ItemsSeen) (known : AllSeen n asked seen) (readers reader given : ℕ) where
   query_at : (a b c : Bool) → nat_le readers reader ≡ a → reaches n asked ≡ b → has_repeat asked ≡ c → seen_query_kind seen readers reader given ≡ first_of (query_tests n readers given reader asked)
   query_at true b c e f g = rw e refl

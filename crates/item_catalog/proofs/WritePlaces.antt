@@ -1,4 +1,4 @@
--- Plain writes: a number's digits at a place, and the sign or the `=` that stands behind them.
+-- Plain writes: a number's digits at a place, and the sign or the `=` that follows them.
 use Rattle.std.proofs.Common.{◌≡◌, ◌<◌, ◌≤◌, ◌+◌, ℕ, List, Option, Some, None, IfSome, Bool, true, false, length, get_or, drop, refl, ap, ◌∙◌}
 use Rattle.std.specs.Char.{is_ascii_digit}
 use Rattle.air_base.specs.Numbers.{number_of}
@@ -16,13 +16,13 @@ sign_other : (minus : Bool) → is_ascii_digit (sign_of minus) ≡ false
 sign_other true = refl
 sign_other false = refl
 
--- A number's digits were read at a place, and none stands behind them.
+-- A number's digits were read at a place, and no digit follows them.
 module _ (whole : List ℕ) (place behind len n : ℕ) (there : behind ≡ place + len) (read : DigitsRead (drop place whole) len n) (inside : behind ≤ length whole) (some : 0 < len)
     (alone : get_or (drop place whole) 0 0 ≡ 48 → len ≡ 1) where
   abbrev text : List ℕ
   text = drop place whole
 
-  -- The write of an item, where a sign stands behind the digits, and a whole write, where it is a `=`.
+  -- The write of an item, if a sign follows the digits, and a whole write, if a `=` does.
   pub value_plain : (item : ℕ) (minus : Bool) (f : ℕ × ℕ) → behind < length whole → get_or whole behind 0 ≡ sign_of minus → PlainAt number_of whole (behind + 1) f
       → PlainAt (spelled_value_write (Some item)) whole place (record { item = item; base = Some n; minus = minus; amount = f.0 }, f.1)
   value_plain item minus f more sign plain =

@@ -1,4 +1,4 @@
--- The records of written rows are these rows, where the first begins with no byte order mark.
+-- The records of written rows are these rows, if the first row doesn't begin with a byte order mark.
 use Rattle.std.proofs.Common.{◌≡◌, ◌++◌, ◌∷◌, [], ℕ, List, None, false, refl, ap, map, ◌∙◌}
 use Rattle.std.specs.Prelude.{◌==◌}
 use Rattle.std.specs.List.{flat_map}
@@ -11,7 +11,7 @@ use Rattle.air_model.specs.Rows.{row_writer, rows_text}
 use Rattle.item_catalog.specs.Records.{records_of}
 use Rattle.item_catalog.proofs.RowLemmas.{all_rows}
 
--- How reports and decks write a row is csv's own way.
+-- Reports and decks write a row in csv's own way.
 same_escaped : (field : List ℕ) → escaped row_writer field ≡ escaped default_writer field
 unfolding escaped
 same_escaped [] = refl

@@ -1,4 +1,4 @@
--- What contracts see of the fields of a deck, and what these keep.
+-- What contracts see of the fields of a deck, and what always holds of them.
 use Rattle.std.specs.Prelude.{◌≡◌, ◌≤◌, map}
 use Rattle.air_base.specs.declared.limits.TheConstants.{MOST_DELTA}
 use Rattle.air_model.specs.Decks.{Deck, IsDeck}
@@ -6,7 +6,7 @@ use Rattle.item_catalog.specs.DeckLimits.{WithinLimits, script_starts}
 use Rattle.item_catalog.specs.Decks.{plain_item, plain_replan, with_freqs}
 use Rattle.item_catalog.specs.declared.deck.Deck.TheInside.{Inside}
 
--- The plain deck of the fields: a frequency that isn't said is made of delta.
+-- The plain deck of the fields: a frequency that isn't given is computed from delta.
 abbrev pub deck_seen : Inside → Deck
 deck_seen d = record {
   items = map plain_item d.items.items;
@@ -19,7 +19,7 @@ deck_seen d = record {
   settings = d.settings;
 }
 
--- A deck is well made and within the limits, delta too, and the starts are counted.
+-- A deck is well made and within the limits, delta is too, and the starts are counted.
 pub record DeckKept (d : Inside) : Type 0 where
   pub made : IsDeck (deck_seen d)
   pub limits : WithinLimits (deck_seen d)

@@ -1,8 +1,8 @@
 -- The text of a deck: one record for each of its parts.
 --
--- The records are those of the grammar (`Declarations`), each part's in the order in which the deck has them: the items, the disks,
--- the replans, the updates of each updater, the readers, the queries of each reader, one record for the script, and one for each setting but
--- delta, since each disk's frequency is said.
+-- The records are those of the grammar (`Declarations`), with the parts in the deck's order: the items, the disks, the replans,
+-- the updates of each updater, the readers, the queries of each reader, one record for the script, and one for each setting
+-- except delta, since each disk's frequency is given.
 use Rattle.std.specs.Prelude.{◌≡◌, ◌+◌, ◌<◌, ◌++◌, ℕ, List, [], ◌∷◌, Bool, true, false, Option, Some, None, length, map, codes}
 use Rattle.std.specs.List.{enumerate_from, flat_map}
 use Rattle.air_base.specs.Numbers.{number_text}
@@ -35,7 +35,7 @@ abbrev pub event_text : Option ℕ → List ℕ
 event_text None = codes "s"
 event_text (Some by) = number_text by
 
--- The value of a write: an amount, a base and an amount more, or a base less an amount.
+-- The value of a write: an amount, a base plus an amount, or a base minus an amount.
 abbrev pub value_text : Bool → Option ℕ → ℕ → List ℕ
 value_text minus None amount = number_text amount
 value_text true (Some base) amount = number_text base ++ (codes "-" ++ number_text amount)
@@ -111,7 +111,7 @@ reader_declaration reader = e.DeclaredReader reader.room reader.age reader.tries
 abbrev pub query_declarations : ℕ → List (List (List ℕ)) → List Declaration
 query_declarations from queries = flat_map (λ (own : ℕ × List (List ℕ)). map (e.DeclaredQuery own.0) own.1) (enumerate_from from queries)
 
--- All settings but delta.
+-- All settings except delta.
 abbrev pub all_set : Settings → List Setting
 all_set s =
     setting.Policy s.policy ∷ setting.Number n.Version s.version ∷ setting.Number n.Cycles s.cycles ∷ setting.Number n.Seed s.seed ∷ setting.Number n.Loss s.loss ∷ setting.Number n.Again s.again ∷
@@ -130,6 +130,6 @@ deck_text deck = rows_text (map declaration_row (deck_declarations deck))
 
 -- ---- what has a text
 
--- The last updater has an update: the number of updaters is told by their updates alone.
+-- The last updater has an update. It must, since the number of updaters is known only from their updates.
 abbrev pub LastUpdates : Deck → Type 0
 LastUpdates deck = (last : ℕ) → length deck.updates ≡ last + 1 → 0 < length (updates_by deck last)

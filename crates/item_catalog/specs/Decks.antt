@@ -1,4 +1,4 @@
--- The deck that declarations spell, whatever their order among the tags.
+-- The deck that declarations spell, in any order among the tags.
 use Rattle.std.specs.Prelude.{◌+◌, ◌*◌, ℕ, List, [], ◌∷◌, map, length, unwrap_or}
 use Rattle.std.specs.List.{range_with_len}
 use Rattle.air_model.specs.Decks.{Deck, Item, Replan}
@@ -10,7 +10,7 @@ use Rattle.item_catalog.specs.declared.parts.ItemPart.{ItemPart}
 use Rattle.item_catalog.specs.declared.parts.DiskPart.{DiskPart}
 use Rattle.item_catalog.specs.declared.deck.draft.settings.Name.TheVariants.{Delta}
 
--- What a function gives of each number below n, in order.
+-- What a function gives for each number below n, in order.
 abbrev pub for_each : {A : Type 0} → ℕ → (ℕ → A) → List A
 for_each n f = map f (range_with_len 0 n)
 
@@ -18,18 +18,18 @@ for_each n f = map f (range_with_len 0 n)
 abbrev pub plain_item : ItemPart → Item
 plain_item item = record { value = item.value; rate = item.rate }
 
--- Disks with their frequencies. `-` stands for one more than delta times the number of disks after this one, so that
--- each disk has delta more than the next.
+-- Disks with their frequencies. `-` stands for one more than delta times the number of disks after this one, so each such disk
+-- is aired delta more often than the next.
 abbrev pub with_freqs : ℕ → List DiskPart → List DiskSpec
 with_freqs delta [] = []
 with_freqs delta (disk ∷ disks) =
     record { size = disk.size; freq = unwrap_or disk.freq (length disks * delta + 1) } ∷ with_freqs delta disks
 
--- A replan, whose disks have their frequencies by delta and their own number.
+-- A replan, whose disks have their frequencies from delta and their own number.
 abbrev pub plain_replan : ℕ → ReplanSaid → Replan
 plain_replan delta replan = record { cycle = replan.cycle; disks = with_freqs delta replan.disks }
 
--- The deck: each updater and each reader has a list of its own, and delta is that of all the declarations.
+-- The deck: each updater and each reader has a list of its own, and delta is taken from all the declarations.
 abbrev pub deck_of : List Declaration → Deck
 deck_of declarations = record {
   items = map plain_item (items_in declarations);

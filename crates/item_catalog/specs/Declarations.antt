@@ -1,7 +1,8 @@
--- What a record spells by itself: a declaration of the deck, or the kind of its fault.
+-- What a record spells alone: a declaration of the deck, or the kind of its fault.
 --
--- Four kinds need no other record: those of the number of fields, of the form of a field, of the tag and of a setting. Every other
--- kind is asked of the numbers that a record spells, so a record that spells no declaration has the one kind told here.
+-- Four kinds need no other record: those of the number of fields, of the form of a field, of the tag and of a setting. All
+-- other kinds are tests of the numbers that a record spells, so a record that spells no declaration has just the one kind given
+-- here.
 use Rattle.std.specs.Prelude.{ℕ, List, Option, Some, None, Result, Err, codes, if◌then◌else◌}
 use Rattle.air_base.specs.Numbers.{number_of}
 use Rattle.air_base.specs.NumberLists.{list_of}

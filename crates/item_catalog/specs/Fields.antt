@@ -1,10 +1,10 @@
--- What a field's text spells: a frequency, an event of the script. Numbers and lists are those of `air_base`, writes those
+-- What a field's text spells: a frequency, or an event of the script. Numbers and lists are those of `air_base`, writes those
 -- of `Writes`.
 use Rattle.std.specs.Prelude.{ℕ, List, Option, Some, None, option_map, codes, if◌then◌else◌}
 use Rattle.air_base.specs.Numbers.{number_of}
 use Rattle.item_catalog.specs.RecordFields.{◌is◌}
 
--- A frequency: `-`, which says none, or a number.
+-- A frequency: a number, or `-`, which gives none.
 unfoldable pub freq_of : List ℕ → Option (Option ℕ)
 freq_of text = if text is codes "-" then Some None else option_map Some (number_of text)
 

@@ -1,5 +1,5 @@
--- The first faulty place of a text, and the least kind there. A place is a record's, counted from 0, or the end; what kinds apply
--- at it is a list of their numbers.
+-- The first faulty place of a text, and the least kind there. A place is that of a record, counted from 0, or the end. Which
+-- kinds apply at it is a list of their numbers.
 use Rattle.std.specs.Prelude.{◌≡◌, ◌<◌, ◌≤◌, ℕ, List, [], All, Contains}
 
 -- No kind applies at a place before this one.
@@ -11,7 +11,7 @@ pub record IsLeastKind (kind : ℕ) (kinds : List ℕ) : Type 0 where
   pub one : Contains kinds kind
   pub least : All (λ other. kind ≤ other) kinds
 
--- Among so many places this one is the first at which a kind applies, and this the least kind there.
+-- Among this many places, this one is the first at which a kind applies, and this is the least kind there.
 pub record IsFirstFault (places : ℕ) (kinds : ℕ → List ℕ) (place kind : ℕ) : Type 0 where
   pub within : place < places
   pub first : NoneBefore kinds place

@@ -1,4 +1,4 @@
--- The numbers of the kinds of a deck's fault: of those that apply to a record, the one of the least number is told.
+-- The numbers of the kinds of a deck's fault: of those that apply to a record, the one with the least number is reported.
 use Rattle.std.specs.Prelude.{ℕ}
 use Rattle.item_catalog.specs.declared.faults.FaultKind.{FaultKind}
 use Rattle.item_catalog.specs.declared.faults.FaultKind.TheVariants as fault

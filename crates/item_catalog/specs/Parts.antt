@@ -1,4 +1,5 @@
--- What declarations declare, part by part; each part has its declarations' order, whatever stands between them.
+-- What declarations declare, part by part. The parts of one kind are in their declarations' order, with any others between
+-- them.
 use Rattle.std.specs.Prelude.{◌+◌, ◌==◌, ℕ, List, [], ◌∷◌, Bool, true, false, Option, Some, None, fold, map, max, count_by, if◌then◌else◌}
 use Rattle.std.specs.List.{filter_map, flat_map}
 use Rattle.air_history.specs.UpdateLists.{UpdateLists}
@@ -18,7 +19,7 @@ its_item declaration = None
 abbrev pub items_in : List Declaration → List ItemPart
 items_in declarations = filter_map its_item declarations
 
--- The disk that a declaration declares, with its frequency where a number is said.
+-- The disk that a declaration declares, with its frequency if a number is given.
 abbrev pub its_disk : Declaration → Option DiskPart
 its_disk (e.DeclaredDisk size freq) = Some (record { size = size; freq = freq })
 its_disk declaration = None
@@ -27,7 +28,7 @@ its_disk declaration = None
 abbrev pub disk_parts_in : List Declaration → List DiskPart
 disk_parts_in declarations = filter_map its_disk declarations
 
--- A replan as its record says it: the cycle, and the disks.
+-- A replan as its record gives it: the cycle, and the disks.
 pub record ReplanSaid : Type 0 where
   pub cycle : ℕ
   pub disks : List DiskPart
@@ -46,9 +47,9 @@ its_replan declaration = None
 abbrev pub replans_in : List Declaration → List ReplanSaid
 replans_in declarations = filter_map its_replan declarations
 
--- The cycle of the last replan, or 0 where there is none.
-abbrev pub last_cycle : List ReplanSaid → ℕ
-last_cycle replans = fold (λ (cycle : ℕ) replan. replan.cycle) 0 replans
+-- The cycle of the last replan; 0 if there is none.
+abbrev pub last_replan_cycle : List ReplanSaid → ℕ
+last_replan_cycle replans = fold (λ (cycle : ℕ) replan. replan.cycle) 0 replans
 
 -- The update that a declaration gives the updater.
 abbrev pub its_update : ℕ → Declaration → Option UpdateLists
@@ -59,21 +60,21 @@ its_update who declaration = None
 abbrev pub updates_in : List Declaration → ℕ → List UpdateLists
 updates_in declarations who = filter_map (its_update who) declarations
 
--- The declaration is an update.
+-- Whether the declaration is an update.
 abbrev pub is_update : Declaration → Bool
 is_update (e.DeclaredUpdate by reads writes) = true
 is_update declaration = false
 
--- How many declarations are updates, whoever makes them.
+-- How many declarations are updates, of any updater.
 abbrev pub count_updates : List Declaration → ℕ
 count_updates declarations = count_by is_update declarations
 
--- The greatest of some numbers, or 0.
+-- The greatest of some numbers; 0 if there are none.
 abbrev pub greatest_number : List ℕ → ℕ
 greatest_number [] = 0
 greatest_number (n ∷ ns) = max n (greatest_number ns)
 
--- How many updaters a declaration asks for: one more than the one that it names, or 0.
+-- How many updaters a declaration requires: one more than the number that it names; 0 if it names none.
 abbrev pub its_updaters : Declaration → ℕ
 its_updaters (e.DeclaredUpdate by reads writes) = by + 1
 its_updaters declaration = 0
@@ -100,16 +101,16 @@ its_query who declaration = None
 abbrev pub queries_in : List Declaration → ℕ → List (List ℕ)
 queries_in declarations who = filter_map (its_query who) declarations
 
--- The declaration is a query.
+-- Whether the declaration is a query.
 abbrev pub is_query : Declaration → Bool
 is_query (e.DeclaredQuery reader items) = true
 is_query declaration = false
 
--- How many declarations are queries, whoever asks them.
+-- How many declarations are queries, of any reader.
 abbrev pub count_queries : List Declaration → ℕ
 count_queries declarations = count_by is_query declarations
 
--- The events of a script's record: a commit of the updater with the number, or a start where there is none.
+-- The events of a script's record: a number is a commit of that updater, None is a start.
 abbrev pub its_events : Declaration → List (Option ℕ)
 its_events (e.DeclaredScript events) = events
 its_events declaration = []

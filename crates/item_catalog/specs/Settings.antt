@@ -1,4 +1,4 @@
--- Settings: which name and value a record may give one, and what all settings are where some were set.
+-- Settings: which name and value a record may give one, and what all settings are after some were set.
 use Rattle.std.specs.Prelude.{◌-◌, ◌^◌, ℕ, Bool, true, false, List, [], ◌∷◌, Option, Some, None, find, option_map, unwrap_or, codes, if◌then◌else◌}
 use Rattle.air_base.specs.declared.limits.TheConstants.{DEFAULT_CYCLES, DEFAULT_HEARS, MOST_CYCLES, MOST_DELTA, MOST_HEARS, MOST_MONITORS, MOST_SHARE, NEWEST_VERSION}
 use Rattle.air_base.specs.Numbers.{number_of}
@@ -12,7 +12,7 @@ use Rattle.item_catalog.specs.declared.deck.draft.settings.Name.TheVariants.{Del
 use Rattle.item_catalog.specs.declared.deck.draft.settings.Setting.{Setting}
 use Rattle.item_catalog.specs.declared.deck.draft.settings.Setting.TheVariants as setting
 
--- A setting that is a number: its word in a record, its least and its greatest value, and its value where it isn't set.
+-- A setting that is a number: its word in a record, its least and its greatest value, and its value if it isn't set.
 pub record NumberSetting : Type 0 where
   pub word : List ℕ
   pub least : ℕ
@@ -31,7 +31,7 @@ number_setting Late = record { word = codes "late"; least = 0; most = MOST_SHARE
 number_setting Monitors = record { word = codes "monitors"; least = 0; most = MOST_MONITORS; unset = 0 }
 number_setting Hears = record { word = codes "hears"; least = 1; most = MOST_HEARS; unset = DEFAULT_HEARS }
 
--- The least and the greatest value of one, and its value where it isn't set, by names of their own.
+-- The least and the greatest value of a setting, and its value if it isn't set, by names of their own.
 abbrev pub range_of : Name → ℕ × ℕ
 range_of name = ((number_setting name).least, (number_setting name).most)
 
@@ -50,7 +50,7 @@ spelled_policy text =
     else if text is codes "R" then Some RMatrix
     else None
 
--- A number is the setting's value where it is in its range.
+-- A number is the setting's value if it is in its range.
 abbrev pub number_set : Option Name → Option ℕ → Option Setting
 number_set (Some name) (Some n) = if outside (number_setting name).least (number_setting name).most n then None else Some (setting.Number name n)
 number_set name n = None
@@ -60,11 +60,11 @@ abbrev pub setting_of : List ℕ → List ℕ → Option Setting
 setting_of name value =
     if name is codes "policy" then option_map setting.Policy (spelled_policy value) else number_set (name_of name) (number_of value)
 
--- The two have the same word.
+-- Whether the two have the same word.
 abbrev pub same_name : Name → Name → Bool
 same_name a b = (number_setting a).word is (number_setting b).word
 
--- The two set the same thing, whatever they set it to.
+-- Whether the two set the same thing, to any values.
 abbrev pub same_setting : Setting → Setting → Bool
 same_setting (setting.Policy a) (setting.Policy b) = true
 same_setting (setting.Number a x) (setting.Number b y) = same_name a b
@@ -75,18 +75,18 @@ abbrev pub number_said : Name → Setting → Option ℕ
 number_said name (setting.Policy policy) = None
 number_said name (setting.Number other n) = if same_name name other then Some n else None
 
--- The value of a name: the one that was set, else its default.
+-- The value of a name: the one that was set, otherwise its default.
 abbrev pub number_in : Name → List Setting → ℕ
 number_in name [] = (number_setting name).unset
 number_in name (said ∷ settings) = unwrap_or (number_said name said) (number_in name settings)
 
--- The policy: the one that was set, else F-Matrix.
+-- The policy: the one that was set, otherwise F-Matrix.
 abbrev pub policy_in : List Setting → Policy
 policy_in [] = FMatrix
 policy_in (setting.Policy policy ∷ settings) = policy
 policy_in (setting.Number name n ∷ settings) = policy_in settings
 
--- All settings, where these were set.
+-- All settings, if these were set.
 abbrev pub settings_in : List Setting → Settings
 settings_in set = record {
   policy = policy_in set;

@@ -1,7 +1,7 @@
--- What fields spell together: something of each of them, or the kind of a fault.
+-- What fields spell together: a value from all of them, or the kind of a fault.
 use Rattle.std.specs.Prelude.{Option, Some, None, Result, Ok, Err}
 
--- What comes of a value, if there is one. Where texts are spelled, a step of `do` is this.
+-- What follows from a value, if there is one. For spelled texts this is a step of `do`.
 abbrev pub spelled_then : {A B : Type 0} → Option A → (A → Option B) → Option B
 spelled_then None f = None
 spelled_then (Some x) f = f x

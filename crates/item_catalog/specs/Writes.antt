@@ -9,12 +9,12 @@ abbrev pub constant : Option ℕ → Option ℕ → Option Write
 constant (Some item) (Some amount) = Some (record { item = item; base = None; minus = false; amount = amount })
 constant item amount = None
 
--- The write to an item of a base and an amount more, or of a base less an amount.
+-- The write to an item of a base plus an amount, or of a base minus an amount.
 abbrev pub write_on_base : Bool → Option ℕ → Option ℕ → Option ℕ → Option Write
 write_on_base minus (Some item) (Some base) (Some amount) = Some (record { item = item; base = Some base; minus = minus; amount = amount })
 write_on_base minus item base amount = None
 
--- The write of a value to an item: by the two pieces of the value at a `+`, by those at a `-`, or by the whole of it.
+-- The write of a value to an item: by the two parts of the value at a `+`, by those at a `-`, or by the whole of it.
 abbrev pub write_by : Option ℕ → Option (List ℕ × List ℕ) → Option (List ℕ × List ℕ) → List ℕ → Option Write
 write_by item (Some plus) minus value = write_on_base false item (number_of plus.0) (number_of plus.1)
 write_by item None (Some minus) value = write_on_base true item (number_of minus.0) (number_of minus.1)

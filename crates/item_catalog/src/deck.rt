@@ -1,4 +1,4 @@
-//! A deck in the grammar, as its records say it.
+//! A deck in the grammar, as its records give it.
 
 ghost use Rattle.std.specs.Prelude.{◌≡◌, ◌<◌, ◌≤◌, [], length, get_or, slice_get, IfSome, Some};
 ghost use Rattle.air_base.specs.declared.limits.TheConstants.{MOST_ASKED, MOST_DISKS, MOST_EVENTS, MOST_FREQ, MOST_ITEMS, MOST_QUERIES, MOST_RATE, MOST_READERS, MOST_REPLANS, MOST_SIZE, MOST_STARTS, MOST_UPDATERS};
@@ -42,7 +42,8 @@ impl Model for Deck {
 }
 
 impl Deck {
-    /// A deck is well made, and keeps the limits of the grammar.
+    /// For proofs only: tells the caller that the deck is well made and keeps the limits of the grammar. It does nothing at run
+    /// time.
     pub fn shows_well_made(&self)
         ensures made { IsDeck self.now }
         ensures limits { WithinLimits self.now }
@@ -84,7 +85,7 @@ impl Deck {
         self.disks.len() as u32
     }
 
-    /// The number of items of one of its own disks.
+    /// The number of items of one of the deck's own disks.
     pub fn size(&self, d: u32) -> u16
         requires { d < length self.now.disks }
         ensures told { IfSome (slice_get self.now.disks d) (λ disk. result ≡ disk.size) }
@@ -94,7 +95,7 @@ impl Deck {
         self.disks[d as usize].size
     }
 
-    /// How often a cycle airs each item of one of its own disks.
+    /// How often a cycle airs each item of one of the deck's own disks.
     pub fn freq(&self, d: u32) -> u32
         requires { d < length self.now.disks }
         ensures told { IfSome (slice_get self.now.disks d) (λ disk. result ≡ disk.freq) }

@@ -13,7 +13,7 @@ pub fn deck_text_law()
     ensures { (deck : Deck) → IsDeck deck → WithinLimits deck → LastUpdates deck → Spells (deck_text deck) deck }
 {}
 
-/// Some text spells a deck exactly if the deck is well made and within the limits, and its last updater has an update.
+/// Some text spells a deck if and only if the deck is well made and within the limits, and its last updater has an update.
 pub fn spelled_decks_law()
     ensures { (deck : Deck) → ((text : List ℕ) × Spells text deck) ↔ (IsDeck deck × WithinLimits deck × LastUpdates deck) }
 {}

@@ -1,4 +1,4 @@
-//! Why a text is no deck: the kinds of fault, each with its number, and the fault that is told.
+//! Why a text is no deck: the kinds of fault, each with its number, and the fault that is reported.
 
 ghost use Rattle.std.specs.Prelude.{◌≡◌};
 ghost use Rattle.item_catalog.specs.Kinds.{deck_kind_number};
@@ -7,10 +7,10 @@ use air_base::NoMemory;
 use std::error::Error;
 use std::fmt;
 
-/// A kind of fault. Each has a number: of those that apply to a record, the one of the least number is told.
+/// A kind of fault. Each has a number: of those that apply to a record, the one with the least number is reported.
 #[derive(Clone, Copy, Debug, PartialEq, Eq)]
 pub enum FaultKind {
-    /// The tag has another number of fields.
+    /// The number of fields isn't that of the tag.
     Fields,
     /// A field, or a part of a list, isn't of its form.
     Form,
@@ -18,7 +18,7 @@ pub enum FaultKind {
     Id,
     /// An item or a reader isn't declared before it.
     Undeclared,
-    /// An item stands twice in a list.
+    /// An item is twice in a list.
     Twice,
     /// The sizes of the disks, or of those of a replan, don't add up to the number of items.
     Sizes,
@@ -32,12 +32,12 @@ pub enum FaultKind {
     Setting,
     /// An updater commits more updates than it has.
     Overdrawn,
-    /// The sizes and the frequencies of a replan aren't as many.
+    /// A replan doesn't have as many sizes as frequencies.
     Lengths,
 }
 
 impl FaultKind {
-    /// Its number.
+    /// The number of the kind.
     pub fn code(self) -> u8
         ensures { result ≡ deck_kind_number self }
     {
@@ -58,7 +58,7 @@ impl FaultKind {
     }
 }
 
-/// What is said of the kind of each number; no kind has the number 0 or 12.
+/// The sentence for the kind of each number; no kind has the number 0 or 12.
 const SENTENCES: [&str; 14] = [
     "there is a fault",
     "its tag has another number of fields",

@@ -1,5 +1,5 @@
-//! The laws of the grammar: every text spells one deck or has one fault, and never both; and what is spelled keeps
-//! everything that a deck has to keep. Each is carried by a function that does nothing.
+//! The laws of the grammar: every text spells one deck or has one fault, and never both; a deck that is spelled is well made
+//! and within the limits. Each is the contract of a function that does nothing.
 
 ghost use Rattle.std.specs.Prelude.{◌≡◌, ◌⊎◌, ◌<◌, ◌≤◌, ◌^◌, ℕ, List};
 ghost use Rattle.air_model.specs.Decks.{Deck, IsDeck};
@@ -29,12 +29,12 @@ pub fn one_fault_law()
         HasFault text row1 kind1 → HasFault text row2 kind2 → (row1 ≡ row2) × (kind1 ≡ kind2) }
 {}
 
-/// What a text spells is well made, and within the limits.
+/// A deck that a text spells is well made and within the limits.
 pub fn well_made_law()
     ensures { (text : List ℕ) (deck : Deck) → Spells text deck → IsDeck deck × WithinLimits deck }
 {}
 
-/// The deck of a drill is well made too, and within the limits.
+/// The deck of a drill is also well made and within the limits.
 pub fn drill_law()
     ensures { (seed size : ℕ) → seed < 2 ^ 64 → 1 ≤ size → size ≤ MOST_DRILL_SIZE → IsDeck (drill_deck seed size) × WithinLimits (drill_deck seed size) }
 {}

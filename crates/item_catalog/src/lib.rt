@@ -1,8 +1,8 @@
-//! The deck: read from its text, made for a drill, and asked for its parts.
+//! The deck: read from its text or made for a drill, with calls for its parts.
 //!
-//! `reading` reads a deck record by record (`records`, with the lists of a record in `updates`), and tells the first faulty record
-//! with its least kind of fault (`faults`). `drills` draws the deck of a drill. `laws` says that a text spells one deck or has one
-//! fault, and `deck_texts` which decks are spelled by some text.
+//! `reading` reads a deck record by record (`records`, with the lists of a record in `updates`), and names the first faulty
+//! record with its least kind of fault (`faults`). `drills` draws the deck of a drill. `laws` says that a text spells one deck
+//! or has one fault, and `deck_texts` which decks are spelled by some text.
 #![tactic(auto)]
 
 pub mod deck;

@@ -20,14 +20,14 @@ pub struct ItemPart {
     pub rate: u32,
 }
 
-/// A disk as its record says it: without a frequency where it says `-`.
+/// A disk as its record gives it: without a frequency if it has `-`.
 #[derive(Clone, Copy, Debug, PartialEq, Eq)]
 pub struct DiskPart {
     pub size: u16,
     pub freq: Option<u32>,
 }
 
-/// A replan as its record says it: the cycle, and the disks.
+/// A replan as its record gives it: the cycle, and the disks.
 #[derive(Debug, Drop)]
 pub struct ReplanPart {
     cycle: u32,
@@ -65,7 +65,7 @@ impl ReplanPart {
     }
 }
 
-/// The frequency that the text spells: none is `-`.
+/// The frequency that the text spells; `-` is None.
 #[tactic(auto, unfolding(crate::specs::Fields::freq_of))]
 pub fn read_freq(text: &[u8]) -> Option<Option<u64>>
     ensures { result ≡ freq_of text.now }
@@ -79,7 +79,7 @@ pub fn read_freq(text: &[u8]) -> Option<Option<u64>>
     }
 }
 
-/// Whether a frequency is no frequency of a disk.
+/// Whether a number is no frequency of a disk.
 pub fn is_no_freq(freq: Option<u64>) -> bool
     ensures { result ≡ option_any (outside 1 MOST_FREQ) freq }
 {
@@ -108,7 +108,7 @@ pub fn sizes_of(disks: &[DiskPart]) -> u32
     disks.iter().map(|disk| u32::from(disk.size)).sum::<u32>()
 }
 
-/// Whether the sizes of disks don't add up to so many items.
+/// Whether the sizes of disks don't add up to this many items.
 fn differs_from(items: usize, disks: &[DiskPart]) -> bool
     requires { length disks.now ≤ MOST_DISKS }
     ensures { result ≡ differs_from items disks.now }
@@ -116,7 +116,7 @@ fn differs_from(items: usize, disks: &[DiskPart]) -> bool
     sizes_of(disks) as usize != items
 }
 
-/// Whether the sizes of the disks of some replan don't add up to so many items.
+/// Whether the sizes of the disks of some replan don't add up to this many items.
 pub fn some_differs(items: usize, replans: &[ReplanPart]) -> bool
     requires { All (λ r. length r.disks ≤ MOST_DISKS) replans.now }
     ensures { result ≡ list_any (λ replan. differs_from items replan.disks) replans.now }
@@ -161,7 +161,7 @@ impl Updates {
         &self.updates
     }
 
-    /// Their number.
+    /// The number of updates.
     pub fn len(&self) -> usize
         ensures { result ≡ length self.now }
     {
@@ -237,7 +237,7 @@ impl Queries {
         &self.queries
     }
 
-    /// Their number.
+    /// The number of queries.
     pub fn len(&self) -> usize
         ensures { result ≡ length self.now }
     {

@@ -1,6 +1,6 @@
-//! The records of a text, one after the other, each taken once and forgotten.
+//! The records of a text, one after another, each read once and not kept.
 //!
-//! A reader is seen as the records that it has still to give.
+//! Contracts see `Records` as the records that are still to be given.
 
 ghost use Rattle.std.specs.Prelude.{◌≡◌, ◌∷◌, [], false, IfOk, MatchResult, if◌then◌else◌};
 ghost use Rattle.csv.specs.Records.{fields_of};
@@ -14,7 +14,7 @@ use csv::{ByteRecord, Reader, ReaderBuilder};
 use std::alloc::Global;
 use std::marker::Model;
 
-/// A reader of the records of a text; after it ran out of memory it gives no more.
+/// The records of a text, read one by one. After it ran out of memory it gives no more.
 #[derive(Drop)]
 pub struct Records<'a> {
     reader: Reader<&'a [u8]>,
@@ -33,7 +33,7 @@ impl<'a> Model for Records<'a> {
 }
 
 impl<'a> Records<'a> {
-    /// The reader of a text, before its first record.
+    /// The records of a text, before the first.
     pub fn new(alloc: Global, text: &'a [u8]) -> Records<'a>
         ensures { result ≡ records_of text.now }
     {
@@ -46,7 +46,8 @@ impl<'a> Records<'a> {
         }
     }
 
-    /// Takes the next record, and answers whether there is one. Out of memory there are no fields, and no later call gives one.
+    /// Takes the next record, and says whether there is one. Out of memory there are no fields, and no later call gives a
+    /// record.
     pub fn next(&mut self, fields: &mut ByteRecord) -> Result<bool, NoMemory>
         ensures taken { MatchResult result (λ found. self.old ≡ (if found then fields_of fields.new ∷ self.new else [])) (λ _. (self.new ≡ []) × (fields_of fields.new ≡ [])) }
         ensures ended { IfOk result (λ found. found ≡ false → self.new ≡ []) }

@@ -1,12 +1,12 @@
 //! The script of a deck while it is read.
 //!
-//! Events are taken one by one, as long as no limit is passed. How many cycles start and how often each updater commits is
-//! counted along, so that no record of the script is looked at again.
+//! Events are taken one by one, as long as no limit is passed. The starts and each updater's commits are counted at the same
+//! time, so no record of the script is looked at again.
 
 ghost use Rattle.std.specs.Prelude.{◌≡◌, ◌<◌, ◌≤◌, ◌++◌, ◌∷◌, ◌||◌, [], IfOk, OnOk, Some, None, get_or, length, nat_lt, option_map, false};
 ghost use Rattle.air_base.specs.LeadingParts.{LeadingIs};
 ghost use Rattle.air_base.specs.NumberLists.{list_of};
-ghost use Rattle.air_model.specs.Decks.{count_parts};
+ghost use Rattle.air_model.specs.Decks.{scripted_commits};
 ghost use Rattle.item_catalog.specs.Fields.{spelled_event};
 ghost use Rattle.item_catalog.specs.Faults.{count_starts, script_passes, some_below};
 ghost use Rattle.item_catalog.specs.Private.ScriptFields.{EventsRead, stands_alone};
@@ -17,7 +17,7 @@ use air_base::{ends_part, read_leading_number};
 use std::alloc::{AllocFailed, Global};
 use std::marker::Model;
 
-/// The events so far, how many of them are starts, and how many each updater's.
+/// The events so far, the number of starts among them, and each updater's number of commits.
 #[derive(Debug, Drop)]
 pub struct Script {
     events: Vec<Option<u32>>,
@@ -48,7 +48,7 @@ impl Script {
         }
     }
 
-    /// Hands the limits of its type to a caller's proof; it does nothing.
+    /// For proofs only: tells the caller that the limits of the type hold. It does nothing at run time.
     fn shows_limits(&self)
         ensures events { length self.now ≤ MOST_EVENTS }
         ensures starts { count_starts self.now ≤ MOST_STARTS }
@@ -87,7 +87,7 @@ impl Script {
         Ok(())
     }
 
-    /// Takes one more event, unless a limit was passed before or is passed by it: whether one is.
+    /// Takes one more event, unless a limit was passed before or this event passes one. Says whether a limit is passed.
     fn take(&mut self, passed: bool, event: Option<u64>) -> Result<bool, AllocFailed<Option<u32>>>
         ensures passes { IfOk result (λ passes. passes ≡ (passed || script_passes self.old (event ∷ []))) }
         ensures taken { IfOk result (λ passes. passes ≡ false → self.new ≡ self.old ++ event ∷ []) }
@@ -105,7 +105,7 @@ impl Script {
     /// Whether an updater commits more updates than it has.
     pub fn overdraws(&self, updates: &[Updates]) -> bool
         requires { length updates.now ≡ MOST_UPDATERS }
-        ensures { result ≡ some_below MOST_UPDATERS (λ by. nat_lt (length (get_or updates.now by [])) (count_parts by self.now)) }
+        ensures { result ≡ some_below MOST_UPDATERS (λ by. nat_lt (length (get_or updates.now by [])) (scripted_commits by self.now)) }
     {
         for by in 0..MOST_UPDATERS {
             if updates[by].len() < self.commits[by] as usize {
@@ -115,7 +115,7 @@ impl Script {
         false
     }
 
-    /// Reads further events, and adds them unless they pass a limit: whether they do, and none where the text spells no list.
+    /// Reads further events, and adds them unless they pass a limit. Says whether they do; None if the text spells no list.
     pub fn read(&mut self, text: &[u8]) -> Result<Option<bool>, AllocFailed<Option<u32>>>
         ensures { IfOk result (λ read. EventsRead read (list_of spelled_event text.now) self.old self.new) }
     {
@@ -156,7 +156,7 @@ pub fn stands_alone(byte: u8, text: &[u8]) -> bool
     }
 }
 
-/// The event that the first part spells: none is a start.
+/// The event that the first part spells; None is a start.
 #[tactic(auto, using(crate::proofs::PartWords::start_event, crate::proofs::PartWords::number_event, crate::proofs::PartWords::after_start))]
 fn leading_event(text: &[u8]) -> Option<(Option<u64>, &[u8])>
     ensures { LeadingIs spelled_event text.now (option_map (λ f. (f.0, f.1.now)) result) }

@@ -7,7 +7,7 @@ use Rattle.std.proofs.lemmas.Bool.{cases_lt, lt-ltb, ltb-true}
 use Rattle.std.proofs.lemmas.List.{append-nil}
 use Rattle.air_model.specs.Aired.{Air}
 use Rattle.air_model.specs.Judges.{Judge, by_entries}
-use Rattle.air_model.specs.Sessions.{Line, Reader, State, end, end_query, next_query, with_line}
+use Rattle.air_model.specs.Sessions.{Reader, SessionLine, State, end, end_query, next_query, with_line}
 use Rattle.air_model.specs.SessionLaws.{after}
 use Rattle.air_model.proofs.LineLemmas.{lines}
 use Rattle.receiver_core.specs.Receivers.{IsSettled, Receiver}
@@ -74,7 +74,7 @@ module _ (judge : Judge) (air : Air) (reader : Reader) where
   end_none s past = past_end (queries_in reader) s past
 
 -- From one receiver with lines to another with more, the end tells the same.
-pub record Ends (before : Receiver) (L : List Line) (now : Receiver) (M : List Line) : Type 0 where
+pub record Ends (before : Receiver) (L : List SessionLine) (now : Receiver) (M : List SessionLine) : Type 0 where
   pub settled : IsSettled now
   pub air : now.air ≡ before.air
   pub reader : now.reader ≡ before.reader
@@ -85,11 +85,11 @@ pub end_like : (r before : Receiver) (s : State) → r.air ≡ before.air → r.
 end_like r before s air reader = ap (λ a. end (by_entries a.scheme) a before.reader s) (sym air) ∙ ap (λ d. end (judge_of r) r.air d s) (sym reader)
 
 -- One end, whose line is handed out.
-ended : (r : Receiver) (M given : List Line) (s : State) → with_lines given s ≡ end_query (judge_of r) r.air r.reader r.state → s.lines ≡ []
+ended : (r : Receiver) (M given : List SessionLine) (s : State) → with_lines given s ≡ end_query (judge_of r) r.air r.reader r.state → s.lines ≡ []
     → after (M ++ given) s ≡ end_query (judge_of r) r.air r.reader (after M r.state)
 ended r M given s told none = after_given M given s none ∙ ap (after M) told ∙ sym ((lines (judge_of r) r.air r.reader M r.state).end_query)
 
-pub ends_more : {before : Receiver} {L : List Line} {r : Receiver} {M : List Line} (now : Receiver) (given all : List Line) → Ends before L r M → IsSettled now → now.air ≡ r.air → now.reader ≡ r.reader
+pub ends_more : {before : Receiver} {L : List SessionLine} {r : Receiver} {M : List SessionLine} (now : Receiver) (given all : List SessionLine) → Ends before L r M → IsSettled now → now.air ≡ r.air → now.reader ≡ r.reader
     → with_lines given now.state ≡ end_query (judge_of r) r.air r.reader r.state → now.state.lines ≡ [] → all ≡ M ++ given → Ends before L now all
 ends_more {before} {L} {r} {M} now given all h settled air reader told none e = record {
   settled = settled;
@@ -101,7 +101,7 @@ ends_more {before} {L} {r} {M} now given all h settled air reader told none e = 
 }
 
 -- The last end, without a line.
-pub ends_last : {before : Receiver} {L : List Line} {r : Receiver} {M : List Line} (now : Receiver) → Ends before L r M → queries_in r.reader ≤ r.state.query
+pub ends_last : {before : Receiver} {L : List SessionLine} {r : Receiver} {M : List SessionLine} (now : Receiver) → Ends before L r M → queries_in r.reader ≤ r.state.query
     → with_lines [] now.state ≡ end_query (judge_of r) r.air r.reader r.state → now.state.lines ≡ []
     → lines_and_counts (after M now.state) ≡ lines_and_counts (end (judge_of before) before.air before.reader (after L before.state))
 ends_last {before} {L} {r} {M} now h past told none =
@@ -110,7 +110,7 @@ ends_last {before} {L} {r} {M} now h past told none =
     ∙ ap lines_and_counts (sym (end_like r before (after M r.state) h.air h.reader)) ∙ h.state
 
 -- A verdict leaves one query less.
-pub ends_fewer : (r now : Receiver) (given : List Line) → with_lines given now.state ≡ end_query (judge_of r) r.air r.reader r.state → now.reader ≡ r.reader → (queries_in r.reader ≤ r.state.query → ⊥)
+pub ends_fewer : (r now : Receiver) (given : List SessionLine) → with_lines given now.state ≡ end_query (judge_of r) r.air r.reader r.state → now.reader ≡ r.reader → (queries_in r.reader ≤ r.state.query → ⊥)
     → queries_in now.reader - now.state.query < queries_in r.reader - r.state.query
 ends_fewer r now given told reader more =
     let less : r.state.query < queries_in r.reader = elim (cases_lt r.state.query (queries_in r.reader)) as (λ _. r.state.query < queries_in r.reader) [

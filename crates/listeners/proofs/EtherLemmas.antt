@@ -4,7 +4,7 @@ use Rattle.std.proofs.Common.{◌≡◌, ℕ, ◌+◌, ◌*◌, ◌≤◌, if◌
 use Rattle.std.proofs.lemmas.List.{take-append-le, take_all}
 use Rattle.std.proofs.lemmas.Option.{get_or_from_slice_get, slice_get_within}
 use Rattle.air_ether.specs.HeardSoFar.{Ether, IsEtherAfter, due_of}
-use Rattle.air_ether.proofs.EtherLemmas.{front_is, heard_is}
+use Rattle.air_ether.proofs.EtherLemmas.{due_stays, heard_is}
 use Rattle.air_model.specs.Buckets.{Bucket, bucket_in, entry_len, has_ages, most_count}
 use Rattle.air_model.specs.Ethers.{Odds, heard_by, places_due}
 use Rattle.listeners.specs.Listeners.{Listener, hears, hears_one}
@@ -23,13 +23,13 @@ room_few version n few = few_bytes (has_ages version) n few
 
 -- ---- what is due
 
--- What was due before a push, or before the end, is the front of what is due then.
-front_due : (seed number : ℕ) (odds : Odds) (pushed later : List (List ℕ)) (ended : Bool) →
+-- What was due before a push, or before the end, is the first of what is due then.
+due_first : (seed number : ℕ) (odds : Odds) (pushed later : List (List ℕ)) (ended : Bool) →
     take (length (due_of seed number odds pushed false)) (due_of seed number odds (pushed ++ later) ended) ≡ due_of seed number odds pushed false
-front_due seed number odds pushed later ended =
+due_first seed number odds pushed later ended =
     let due = due_of seed number odds pushed false in
-    let front = front_is seed number odds pushed later ended in
-    ap (take (length due)) front.1 ∙ take-append-le (length due) due front.0 (omega arith) ∙ take_all (length due) due (omega arith)
+    let stays = due_stays seed number odds pushed later ended in
+    ap (take (length due)) stays.1 ∙ take-append-le (length due) due stays.0 (omega arith) ∙ take_all (length due) due (omega arith)
 
 module _ (seed number : ℕ) (first : Listener) where
   -- One more member of what is due is heard.
@@ -61,7 +61,7 @@ module _ (seed number : ℕ) (first : Listener) where
 
   -- ---- a push, and the end
 
-  -- After a push, or the end, as many members were heard as before: those at the front.
+  -- After a push, or the end, as many members were heard as before: the first ones.
   pub goes_on : (pushed later all : List (List ℕ)) (e after : Ether) (l : Listener) → HeardDue seed number first pushed e l → e.ended ≡ false → all ≡ pushed ++ later
       → IsEtherAfter seed number all (length (due_of seed number e.odds pushed e.ended)) after → after.odds ≡ e.odds
       → HeardFrom seed number first all (length (due_of seed number e.odds pushed e.ended)) after l
@@ -70,11 +70,11 @@ module _ (seed number : ℕ) (first : Listener) where
       let opened : due ≡ due_of seed number e.odds pushed false = ap (due_of seed number e.odds pushed) unended in
       let now : due_of seed number after.odds all after.ended ≡ due_of seed number e.odds (pushed ++ later) after.ended =
       ap (λ x. due_of seed number x all after.ended) odds ∙ ap (λ p. due_of seed number e.odds p after.ended) is in
-      let front : take (length due) (due_of seed number after.odds all after.ended) ≡ due =
-      ap (take (length due)) now ∙ ap (λ ds. take (length ds) (due_of seed number e.odds (pushed ++ later) after.ended)) opened ∙ front_due seed number e.odds pushed later after.ended ∙ sym opened in
+      let stays : take (length due) (due_of seed number after.odds all after.ended) ≡ due =
+      ap (take (length due)) now ∙ ap (λ ds. take (length ds) (due_of seed number e.odds (pushed ++ later) after.ended)) opened ∙ due_first seed number e.odds pushed later after.ended ∙ sym opened in
       record {
         follows = follows;
-        heard = h.heard ∙ ap (λ ds. hears (map bucket_in ds) first) (take_all (length due) due (omega arith) ∙ sym front);
+        heard = h.heard ∙ ap (λ ds. hears (map bucket_in ds) first) (take_all (length due) due (omega arith) ∙ sym stays);
       }
 
   -- Once all that is due after the end was heard, the heard list was.

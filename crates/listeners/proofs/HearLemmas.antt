@@ -10,7 +10,7 @@ use Rattle.air_model.specs.Buckets.{Bucket}
 use Rattle.air_model.specs.Decks.{Deck}
 use Rattle.air_model.specs.Judges.{by_entries}
 use Rattle.air_model.specs.ReceiverLaws.{session_of}
-use Rattle.air_model.specs.Sessions.{Line, end, hear, hear_all, session, settle}
+use Rattle.air_model.specs.Sessions.{SessionLine, end, hear, hear_all, session, settle}
 use Rattle.air_model.specs.SessionLaws.{after}
 use Rattle.air_model.proofs.LineLemmas.{lines}
 use Rattle.receiver_core.specs.Receivers.{Receiver}
@@ -24,20 +24,20 @@ use Rattle.listeners.proofs.SettlingLemmas.{judge_of}
 -- ---- a receiver and its lines
 
 -- The listener of a receiver and its lines.
-abbrev pub listening : ℕ → Receiver → List Line → Listener
+abbrev pub listening : ℕ → Receiver → List SessionLine → Listener
 listening n r L = record { number = n; air = r.air; reader = r.reader; state = after L r.state }
 
 -- The verdicts before the next member were taken.
-pub record Took (r : Receiver) (M : List Line) (mid : Receiver) (N : List Line) : Type 0 where
+pub record Took (r : Receiver) (M : List SessionLine) (mid : Receiver) (N : List SessionLine) : Type 0 where
   pub air : mid.air ≡ r.air
   pub reader : mid.reader ≡ r.reader
   pub state : after N mid.state ≡ settle (judge_of r) r.air r.reader (after M r.state)
 
-pub took_counts : {r : Receiver} {M : List Line} {mid : Receiver} {N : List Line} → Took r M mid N → heard_by mid.state ≡ heard_by r.state
+pub took_counts : {r : Receiver} {M : List SessionLine} {mid : Receiver} {N : List SessionLine} → Took r M mid N → heard_by mid.state ≡ heard_by r.state
 took_counts {r} {M} {mid} {N} took = ap heard_by took.state ∙ settle_counts (judge_of r) r.air r.reader (after M r.state)
 
 -- A receiver whose verdicts were taken hears one more member.
-pub listener_heard : (n : ℕ) {old mid : Receiver} {M N : List Line} (now : Receiver) (o : Option Bucket) → Took old M mid N → now.air ≡ mid.air → now.reader ≡ mid.reader
+pub listener_heard : (n : ℕ) {old mid : Receiver} {M N : List SessionLine} (now : Receiver) (o : Option Bucket) → Took old M mid N → now.air ≡ mid.air → now.reader ≡ mid.reader
     → now.state ≡ hear (judge_of mid) mid.air mid.reader o mid.state → listening n now N ≡ hears_one o (listening n old M)
 unfolding hears_one
 listener_heard n {old} {mid} {M} {N} now o took air reader heard =
@@ -58,7 +58,7 @@ refused_alone (Ok b) before now heard = λ foreign.
     heard ∙ ap (λ s. let l : Listener = record before { state = s } in l) (cond-false (fits before.air b) _ _ foreign)
 
 -- A receiver whose last verdicts were taken and whose queries were ended has its session's lines and counts.
-pub listener_ended : (n : ℕ) {old mid : Receiver} {L M : List Line} (last : Receiver) (N : List Line) → Took old L mid M
+pub listener_ended : (n : ℕ) {old mid : Receiver} {L M : List SessionLine} (last : Receiver) (N : List SessionLine) → Took old L mid M
     → lines_and_counts (after N last.state) ≡ lines_and_counts (end (judge_of mid) mid.air mid.reader (after M mid.state)) → last.state.lines ≡ []
     → (N, last.state.counts) ≡ lines_and_counts (end_state (listening n old L))
 unfolding end_state

@@ -9,3 +9,4 @@ pub mod RunLemmas
 pub mod ApartLemmas
 pub mod TogetherLemmas
 mod HistoryLemmas
+pub mod SleepLemmas

@@ -53,7 +53,7 @@ sessions_over_each deck heard = same (range_with_len 0 (length deck.readers))
     same [] = refl
     same (r ∷ readers) = ap (λ s. s ∷ map end_state (map over readers)) (session_is deck r (map bucket_in (heard r))) ∙ ap (λ l. session r ∷ l) (same readers)
 
--- ---- where nothing is lost, heard again or late
+-- ---- where nothing is lost, heard again or delayed
 
 -- The odds of an ether that gives what it is given.
 abbrev clear_odds : Odds

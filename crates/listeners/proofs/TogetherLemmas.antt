@@ -1,4 +1,4 @@
--- Readers that hear a tape together: piece by piece, and where nothing is lost, heard again or late.
+-- Readers that hear a tape together: piece by piece, and where nothing is lost, heard again or delayed.
 -- The calls of `together` and `hearers` cite these.
 use Rattle.std.proofs.Common.{◌≡◌, ℕ, ◌+◌, ◌<◌, ◌≤◌, true, List, [], ◌∷◌, ◌++◌, Option, Result, length, map, get_or, All, refl, sym, ◌∙◌, ap, subst, arith, length-append}
 use Rattle.std.specs.Prelude.{IfOk}
@@ -65,7 +65,7 @@ can_hear records so_far piece rest before now room all heard range = λ k d belo
     left : All (HasRoom (length piece)) (map listener_in now)
     left = subst (All (HasRoom (length piece))) (sym heard) (room_left so_far (length piece) (length records) (listeners_in before) within room)
 
--- ---- a deck's readers, where nothing is lost, heard again or late
+-- ---- a deck's readers, where nothing is lost, heard again or delayed
 
 -- All of them, before they hear anything.
 abbrev all_of : Deck → List Listener

@@ -35,7 +35,7 @@ pub record IsEtherListener (deck : Deck) (number : ℕ) (pushed : List (List ℕ
   pub room : x.ether.most ≡ HEAD_BYTES + entry_len deck.settings.version * length deck.items
   pub heard : HeardDue deck.settings.seed number (listener_of deck number) pushed x.ether x.listener
 
--- Nothing of what is aired is lost, heard again or late.
+-- Nothing of what is aired is lost, heard again or delayed.
 pub record IsPerfect (deck : Deck) : Type 0 where
   pub loss : deck.settings.loss ≡ 0
   pub again : deck.settings.again ≡ 0

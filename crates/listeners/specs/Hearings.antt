@@ -14,7 +14,7 @@ pub record AreApart (deck : Deck) (pushed : List (List ℕ)) (readers : List Pie
   pub long : length readers ≡ length deck.readers
   pub each : (k : ℕ) (d : PieceReader) → k < length deck.readers → IsEtherListener deck k pushed (get_or readers k d).reader
 
--- Nothing is lost, heard again or late, and each of the deck's readers heard these records.
+-- Nothing is lost, heard again or delayed, and each of the deck's readers heard these records.
 pub record AreTogether (deck : Deck) (pushed : List (List ℕ)) (listeners : List Listener) : Type 0 where
   pub clear : IsPerfect deck
   pub heard : listeners ≡ map (hears (map bucket_in pushed)) (map (listener_of deck) (range_with_len 0 (length deck.readers)))

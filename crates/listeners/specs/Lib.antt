@@ -3,3 +3,4 @@ pub mod EtherListeners
 pub mod Hearings
 pub mod Private
 pub mod HistoryTapes
+pub mod AiredCycles

@@ -1,4 +1,5 @@
--- Definitions that private steps alone speak of: no public contract cites them, nor what a public type shows.
+-- Definitions that private steps alone speak of: no public contract cites them.
 pub mod ApartSteps
 pub mod Endings
+pub mod Sleeping
 pub mod TogetherSteps

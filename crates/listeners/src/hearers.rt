@@ -1,6 +1,6 @@
 //! All readers of a deck, who hear a tape piece by piece: together, or each its own ether.
 //!
-//! Where nothing is lost, heard again or late, each ether gives the tape itself: then all hear the same. Else each record is pushed
+//! Where nothing is lost, heard again or delayed, each ether gives the tape itself: then all hear the same. Else each record is pushed
 //! into every ether. Either way the readers step side by side, and what they come to is what the pieces have in all.
 
 ghost use Rattle.std.specs.Prelude.{◌≡◌, ◌↔◌, ◌≤◌, ◌+◌, ◌*◌, ◌++◌, ℕ, List, [], All, IfOk, IsTrue, None, OnOk, length};
@@ -28,7 +28,7 @@ use std::thread::Threads;
 /// All readers of a deck, who hear a tape piece by piece: together, or each its own ether.
 #[derive(Drop)]
 pub enum Hearers {
-    /// Nothing is lost, heard again or late: all hear the same.
+    /// Nothing is lost, heard again or delayed: all hear the same.
     Together(Together),
     /// Each hears its own ether.
     Apart(Apart),
@@ -59,7 +59,10 @@ impl Hearers {
         ensures { (pushed : List (List ℕ)) → AreHearing planned.now pushed self.old → OnOk result (AreHearing planned.now (pushed ++ (tape_read piece.now).records) self.new) }
     {
         match self {
-            Hearers::Together(together) => hear_together(threads, alloc, planned, together, piece),
+            Hearers::Together(together) => {
+                together.hear(threads, alloc, piece)?;
+                Ok(())
+            }
             Hearers::Apart(apart) => apart.hear(threads, alloc, planned, piece),
         }
     }
@@ -84,28 +87,12 @@ impl Hearers {
     }
 }
 
-/// Whether nothing of what is aired is lost, heard again or late.
-fn is_perfect(deck: &Deck) -> bool
+/// Whether nothing of what is aired is lost, heard again or delayed.
+pub fn is_perfect(deck: &Deck) -> bool
     ensures { IsTrue result ↔ IsPerfect deck.now }
 {
     let set = deck.settings();
     set.loss == 0 && set.again == 0 && set.late == 0
-}
-
-/// Lets all hear a piece together: a whole piece, as `TapeReader` tells.
-fn hear_together<T: Threads + Sync>(
-    threads: &T,
-    alloc: Global,
-    planned: &Planned,
-    together: &mut Together,
-    piece: &[u8],
-) -> Result<(), NoMemory>
-    requires whole { (tape_read piece.now).cut ≡ None }
-    requires few { (pushed : List (List ℕ)) × AreTogether planned.now pushed together.old × (length pushed + length (tape_read piece.now).records ≤ MOST_TAPE_RECORDS) }
-    ensures { (pushed : List (List ℕ)) → AreTogether planned.now pushed together.old → OnOk result (AreTogether planned.now (pushed ++ (tape_read piece.now).records) together.new) }
-{
-    together.hear(threads, alloc, piece)?;
-    Ok(())
 }
 
 /// Ends the sessions of readers who heard the pieces together.

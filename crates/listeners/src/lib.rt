@@ -7,6 +7,7 @@
 #![tactic(auto)]
 
 mod apart;
+mod cycles;
 mod ethers;
 mod hearers;
 mod histories;
@@ -18,7 +19,8 @@ mod runs;
 mod together;
 mod verdicts;
 
-pub use hearers::Hearers;
+pub use cycles::all_hear_cycle;
+pub use hearers::{Hearers, is_perfect};
 pub use histories::history_sessions;
 pub use listener::Listener;
 pub use readers::{Sessions, all_hear, end_all, listeners_of};

@@ -2,21 +2,29 @@
 //!
 //! It is seen as its reader's state with every line up to now. It takes the verdicts before each member, and hears it.
 
-ghost use Rattle.std.specs.Prelude.{◌≡◌, ◌<◌, ◌+◌, ◌^◌, ◌++◌, ◌∷◌, [], IfOk, OnOk, length, map};
+ghost use Rattle.std.specs.Prelude.{◌≡◌, ◌⊎◌, ◌<◌, ◌≤◌, ◌+◌, ◌-◌, ◌*◌, ◌^◌, ◌++◌, ◌∷◌, [], IfOk, OnOk, Some, length, map};
+ghost use Rattle.std.specs.List.{range_with_len};
 ghost use Rattle.std.specs.Result.{result_ok};
-ghost use Rattle.air_model.specs.Buckets.{IsInRange};
+ghost use Rattle.air_model.specs.Buckets.{IsInRange, entry_len, most_count};
+ghost use Rattle.air_model.specs.Disks.{all_items};
+ghost use Rattle.air_model.specs.Programs.{program as slots_of};
 ghost use Rattle.air_model.specs.Reports.{line_by};
+ghost use Rattle.air_sender.specs.BoardBuckets.{EntriesBelow, bucket_on};
+ghost use Rattle.bucket_codec.specs.declared.offsets.TheConstants.{HEAD_BYTES};
 ghost use Rattle.receiver_core.specs.Receivers.{heard_count};
-ghost use Rattle.listeners.specs.Listeners.{ChangesNoAttempt, end_state, hears_one, listener_of};
+ghost use Rattle.listeners.specs.AiredCycles.{AreFitting};
+ghost use Rattle.listeners.specs.Listeners.{ChangesNoAttempt, end_state, hears, hears_one, listener_of};
 ghost use Rattle.listeners.specs.Private.Endings.{lines_and_counts};
 
+use crate::cycles::{hear_slot, sleep};
 use crate::readers::Sessions;
-use crate::verdicts::{Line, end_queries, take_verdicts};
-use air_base::{Counts, NoMemory};
+use crate::verdicts::{SessionLine, end_queries, take_verdicts};
+use air_base::{Counts, Form, NoMemory};
 use air_model::bucket::BucketFault;
 use air_model::reports::{CountsLine, VerdictLine};
 use bucket_codec::BucketView;
-use chunk_program::Planned;
+use chunk_program::{Planned, Program};
+use control_matrix::Board;
 use receiver_core::Receiver;
 use std::alloc::Global;
 use std::marker::Model;
@@ -26,7 +34,7 @@ use std::marker::Model;
 pub struct Listener {
     number: u32,
     receiver: Receiver,
-    lines: Vec<Line>,
+    lines: Vec<SessionLine>,
 }
 
 impl Model for Listener {
@@ -69,8 +77,43 @@ impl Listener {
         Ok(())
     }
 
+    /// Takes the verdicts before the bucket of a slot, and hears what a board airs in its cycle from this slot on, up to the next wanted
+    /// bucket, or to the end: the slot behind.
+    pub(crate) fn hear_stretch(
+        &mut self,
+        alloc: Global,
+        program: &Program,
+        board: &Board,
+        form: Form,
+        slot: u32,
+        buf: &mut [u8],
+    ) -> Result<u32, NoMemory>
+        requires slot { slot < length (slots_of program.now.disks) }
+        requires counts { heard_count self.old.state.counts + (length (slots_of program.now.disks) - slot) < 2 ^ 64 }
+        requires fitting { AreFitting self.old.air form program.now.edition (slots_of program.now.disks) board.now }
+        requires own { length (all_items program.now.disks) ≡ self.old.air.items }
+        requires version { (form.version ≡ 1) ⊎ (form.version ≡ 2) }
+        requires few { length board.now.values ≤ most_count form.version }
+        requires started { 1 ≤ board.now.cycle }
+        requires below { EntriesBelow board.now }
+        requires items { length (all_items program.now.disks) ≡ length board.now.values }
+        requires room { HEAD_BYTES + entry_len form.version * length board.now.values ≤ length buf.old }
+        ensures next { IfOk result (λ next. (slot < next) × (next ≤ length (slots_of program.now.disks))) }
+        ensures heard { IfOk result (λ next. self.new
+            ≡ hears (map (λ s. Some (bucket_on form program.now.edition (slots_of program.now.disks) board.now s)) (range_with_len slot (next - slot))) self.old) }
+        ensures buffer { length buf.new ≡ length buf.old }
+    {
+        take_verdicts(alloc, &mut self.receiver, &mut self.lines)?;
+        let next = sleep(&mut self.receiver, program, board, form, slot);
+        if next == program.slots() {
+            return Ok(next);
+        }
+        hear_slot(&mut self.receiver, program, board, form, next, buf);
+        Ok(next + 1)
+    }
+
     /// The lines of the session that is ended, and its counts.
-    fn ended(self, alloc: Global) -> Result<(Vec<Line>, Counts), NoMemory>
+    fn ended(self, alloc: Global) -> Result<(Vec<SessionLine>, Counts), NoMemory>
         ensures { IfOk result (λ told. (told.0.items, told.1) ≡ lines_and_counts (end_state self)) }
     {
         let mut receiver = self.receiver;
@@ -98,7 +141,11 @@ impl Listener {
 }
 
 /// Adds a session's lines as those of the reader of a number.
-fn add_lines(reader: u32, lines: Vec<Line>, verdicts: &mut Vec<VerdictLine>) -> Result<(), NoMemory>
+fn add_lines(
+    reader: u32,
+    lines: Vec<SessionLine>,
+    verdicts: &mut Vec<VerdictLine>,
+) -> Result<(), NoMemory>
     ensures { OnOk result (verdicts.new.items ≡ verdicts.old.items ++ map (line_by reader) lines.items) }
 {
     for line in lines {

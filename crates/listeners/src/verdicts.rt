@@ -17,15 +17,15 @@ use std::marker::Model;
 
 /// A verdict, and the reads of its attempt in the order of reading.
 #[derive(Debug, Drop)]
-pub(crate) struct Line {
+pub(crate) struct SessionLine {
     pub verdict: Verdict,
     pub reads: Reads,
 }
 
-impl Model for Line {
-    ghost use Rattle.air_model.specs.Sessions.{Line};
+impl Model for SessionLine {
+    ghost use Rattle.air_model.specs.Sessions.{SessionLine};
 
-    ghost Value = { Line };
+    ghost Value = { SessionLine };
 
     ghost view = { λ l. record { verdict = l.verdict; reads = l.reads } };
 }
@@ -35,13 +35,13 @@ fn push_line(
     alloc: Global,
     receiver: &Receiver,
     verdict: Verdict,
-    lines: &mut Vec<Line>,
+    lines: &mut Vec<SessionLine>,
 ) -> Result<(), NoMemory>
     ensures { OnOk result (lines.new.items
         ≡ lines.old.items ++ record { verdict = verdict; reads = receiver.now.last } ∷ []) }
 {
     let reads = Reads::from_vec(receiver.last_reads().to_vec(alloc)?);
-    lines.push(Line { verdict, reads })?;
+    lines.push(SessionLine { verdict, reads })?;
     Ok(())
 }
 
@@ -49,7 +49,7 @@ fn push_line(
 pub(crate) fn take_verdicts(
     alloc: Global,
     receiver: &mut Receiver,
-    lines: &mut Vec<Line>,
+    lines: &mut Vec<SessionLine>,
 ) -> Result<(), NoMemory>
     ensures settled { OnOk result (IsSettled receiver.new) }
     ensures state { OnOk result (after lines.new.items receiver.new.state
@@ -67,7 +67,7 @@ pub(crate) fn take_verdicts(
 pub(crate) fn end_queries(
     alloc: Global,
     receiver: &mut Receiver,
-    lines: &mut Vec<Line>,
+    lines: &mut Vec<SessionLine>,
 ) -> Result<(), NoMemory>
     requires { IsSettled receiver.old }
     ensures settled { OnOk result (IsSettled receiver.new) }

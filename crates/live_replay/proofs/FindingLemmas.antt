@@ -24,7 +24,7 @@ use Rattle.air_model.specs.Decks.{Deck, values_in}
 use Rattle.air_model.specs.Judges.{Judge, by_history}
 use Rattle.air_model.specs.Reads.{Read}
 use Rattle.air_model.specs.Reports.{line_by, total_at}
-use Rattle.air_model.specs.Sessions.{Line, Reader, line_of, read_in, session}
+use Rattle.air_model.specs.Sessions.{Reader, SessionLine, line_of, read_in, session}
 use Rattle.air_model.specs.SessionLaws.{QueriesFilled, are_far, decided_on}
 use Rattle.air_model.specs.declared.reports.LookLine.{LookLine}
 use Rattle.air_model.specs.declared.reports.VerdictLine.{VerdictLine}
@@ -165,7 +165,7 @@ module _ (deck : Deck) (H : List Event) where
       K : ℕ → ℕ → List Read → Type 0
       K q a R = Accepts deck.settings.policy H (map judge.place_of R) × (are_far deck.settings.version (map judge.place_of R) ≡ false)
 
-      L : Line → Type 0
+      L : SessionLine → Type 0
       L l = verdict_cause deck H (line_by r l) ≡ None
 
       gives : (o : Option Bucket) → Gives (air_of deck) Any o

@@ -9,7 +9,7 @@ use Rattle.air_model.specs.Decks.{Deck, IsDeck, values_in}
 use Rattle.air_model.specs.Judges.{by_history}
 use Rattle.air_model.specs.ReceiverLaws.{session_of}
 use Rattle.air_model.specs.Reports.{line_by, verdict_lines}
-use Rattle.air_model.specs.Sessions.{Line, State, reader_of}
+use Rattle.air_model.specs.Sessions.{SessionLine, State, reader_of}
 use Rattle.air_model.specs.declared.reports.VerdictLine.{VerdictLine}
 use Rattle.air_model.proofs.DeckLemmas.{air}
 use Rattle.air_report.specs.declared.reading.ReadReport.{ReadReport}
@@ -33,7 +33,7 @@ module _ (deck : Deck) (H : List Event) where
       All (λ l. GivesVerdict deck H (line_by r l)) (session_of (by_history (scheme_in deck) (values_in deck) H) deck r heard).lines
   judged_session r heard is k d b = (agrees deck H (line_by r (get_or lines k d))).0 (session_agrees deck H r (reader_of deck r) heard ((air deck is).1 r) k d b)
     where
-      lines : List Line
+      lines : List SessionLine
       lines = (session_of (by_history (scheme_in deck) (values_in deck) H) deck r heard).lines
 
   abbrev Given : VerdictLine → Type 0

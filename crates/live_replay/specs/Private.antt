@@ -1,4 +1,4 @@
--- Definitions that private steps alone speak of: no public contract cites them, nor what a public type shows.
+-- Definitions that private steps alone speak of: no public contract cites them.
 pub mod Writes
 pub mod Alone
 pub mod Runs

@@ -31,7 +31,7 @@ fn origins_of(
     Ok(origins)
 }
 
-/// Marks too what is marked in another row.
+/// Marks too what is marked in another list.
 fn mark_too(more: &[bool], marks: &mut [bool])
     requires { length more.now ≡ length marks.old }
     ensures { (p : ℕ) → get_or marks.new p false ≡ (get_or marks.old p false || get_or more.now p false) }

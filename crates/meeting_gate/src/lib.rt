@@ -8,10 +8,10 @@ use air_devices::Gate;
 use std::sync::atomic::{AtomicU64, Ordering};
 use std::thread;
 
-/// How often a thread looks at most whether another came.
+/// The greatest number of times that a thread looks whether another came.
 const TURNS: u64 = 1_000_000_000;
 
-/// Which calls were made, and how often one was waited for in vain.
+/// The calls that were made, and the number of times that one was waited for in vain.
 #[derive(Drop)]
 pub struct MeetingGate {
     first_committed: AtomicU64,

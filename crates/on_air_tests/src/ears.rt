@@ -1,4 +1,4 @@
-//! An ear that would go on after its end, and a datagram that is one byte longer than the room for it.
+//! An ear that would answer again after its end, and a datagram that is one byte longer than the room for it.
 
 ghost use Rattle.std.specs.Prelude.{◌<◌, None, Some, length};
 ghost use Rattle.air_devices.specs.Ears.{Hears};
@@ -32,7 +32,7 @@ const BUCKET_1: &[u8] = &[
 /// A datagram of 2,049 bytes.
 const LONG: [u8; 2_049] = [0; 2_049];
 
-/// An ear that gives these one after another, and the end for each empty one and after all; how often it was asked, and what it gave first.
+/// An ear that gives these one after another, and the end for each empty one and after all. It counts how often it was asked, and what it gave first.
 #[derive(Drop)]
 struct TurningEar<'a> {
     port: Option<u16>,
@@ -76,7 +76,7 @@ impl Ear for TurningEar<'_> {
     }
 }
 
-/// How often the ear was asked, and what it gave first, where the deck's reader listens to it; nothing where it prints something else.
+/// How often the ear was asked, and what it gave first, if the deck's reader listens to it; nothing if another report is printed.
 fn asked_and_first<R: Threads + Wait + Sync>(
     rt: &R,
     alloc: Global,

@@ -1,7 +1,6 @@
 //! The commands `cast` and `listen` at once, over real sockets of this machine: both end.
 //!
-//! A datagram may be lost, so nothing is said of what is heard. The deck of who listens lets it hear one datagram, and its ear
-//! sends itself one.
+//! A datagram may be lost, so nothing is said of what is heard. The listener's deck lets it hear one datagram, and its ear sends itself one.
 
 ghost use Rattle.std.specs.Prelude.{◌≡◌, ◌<◌, None};
 ghost use Rattle.std.specs.Thread.{IsSync};
@@ -47,7 +46,7 @@ fn loopback(port: u16) -> SocketAddr {
     SocketAddr::from(([127, 0, 0, 1], port))
 }
 
-/// A port at which nobody listens, found by a socket that is closed again.
+/// A free port: that of a socket that is closed again.
 fn free_port<R: Net>(net: &R) -> io::Result<u16> {
     let socket = UdpSocket::bind(net, loopback(0))?;
     Ok(socket.local_addr()?.port())
@@ -90,7 +89,7 @@ fn cast_end<R: Threads + Wait + Sync, M: Mast + Send>(
     Ok(air_main(rt, alloc, &words, &mut shelf, mast, &mut ear, &OpenGate))
 }
 
-/// How it ends to listen on a port.
+/// How listening on a port ends.
 fn listen_end<R: Threads + Wait + Sync + Net>(
     rt: &R,
     alloc: Global,

@@ -1,7 +1,7 @@
 //! Scripts that are aired by pieces, and how long their tapes and pieces are.
 //!
-//! After each piece it is told how many starts it has, how many bytes, and how many events were run; at the end the tape's sum, and the
-//! report.
+//! After each piece the transcript has its number of starts, its number of bytes, and the number of events that were run; at the end the tape's sum,
+//! and the report.
 
 ghost use Rattle.std.specs.Prelude.{◌≤◌, length};
 ghost use Rattle.air_base.specs.declared.limits.TheConstants.{MOST_TAPE_BYTES};
@@ -19,10 +19,10 @@ use scripts::{PieceRun, ScriptAiring, piece_cycles};
 use std::alloc::Global;
 use std::thread::Threads;
 
-/// The most pieces of a script: one for each of its events.
+/// The greatest number of pieces of a script: one for each of its events.
 const MOST_PIECES: u32 = 110_000;
 
-/// Tells how many bytes the script's tape has, and how many cycles a piece, where a number of starts comes after the deck.
+/// Adds the number of bytes of the tape of the script with a number of further starts, and the number of cycles of a piece.
 pub fn sizes(
     alloc: Global,
     deck: &[u8],
@@ -40,7 +40,7 @@ pub fn sizes(
     add_line(b"bytes and cycles", &[tape_len(&planned), cycles], came)
 }
 
-/// Airs the deck's script to all its readers, by pieces of a number of cycles.
+/// Airs the deck's script to all its readers, in pieces of a number of cycles.
 pub fn air<T: Threads + Sync>(
     threads: &T,
     alloc: Global,
@@ -58,7 +58,7 @@ pub fn air<T: Threads + Sync>(
     air_pieces(threads, alloc, &planned, cycles, came)
 }
 
-/// The same, of a deck with its plans.
+/// The same for a deck with its plans.
 fn air_pieces<T: Threads + Sync>(
     threads: &T,
     alloc: Global,
@@ -87,7 +87,7 @@ fn air_pieces<T: Threads + Sync>(
     add_report(alloc, events, sessions, came)
 }
 
-/// Runs the deck's script to a mast of limited room. The numbers are this room, and then how many cycles each piece has.
+/// Runs the deck's script to a mast of limited room. The numbers are this room, and then the number of cycles of each piece.
 pub fn run(
     alloc: Global,
     text: &[u8],
@@ -102,7 +102,7 @@ pub fn run(
     run_pieces(alloc, &planned, room, &pieces, came)
 }
 
-/// The same, of a deck with its plans. After each piece it is told whether all events were run.
+/// The same for a deck with its plans. After each piece it adds whether all events were run.
 fn run_pieces(
     alloc: Global,
     planned: &Planned,

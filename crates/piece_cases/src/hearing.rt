@@ -1,7 +1,7 @@
 //! Tapes that are heard by pieces.
 //!
-//! `hear` has the name of a file, its limit and the size of a piece, each `own` where they are the program's, and the calls that fail.
-//! `fronts` has the size of a piece.
+//! `hear` takes the name of a file, its limit and the size of a piece, each `own` for those of the program, and the calls that fail. `fronts` takes
+//! the size of a piece.
 
 use crate::decks::planned_deck;
 use crate::reports::add_report;
@@ -22,8 +22,7 @@ fn shelf_of(alloc: Global, tape: &[u8], fail: Vec<u64>) -> Result<MemShelf, NoMe
     MemShelf::new(alloc, files, Vec::new(alloc), 0, fail)
 }
 
-/// What the deck's readers report that hear a named file of the shelf, or why they don't; by pieces of these sizes, or of those that the
-/// program has.
+/// The report of the deck's readers who hear a named file of the shelf, or why there is none; with pieces of these sizes, or of those of the program.
 fn heard<R: Threads + Sync>(
     rt: &R,
     alloc: Global,
@@ -51,7 +50,7 @@ fn heard<R: Threads + Sync>(
     Ok(came)
 }
 
-/// Lets the readers hear a file. It also tells how many bytes of the tape are left.
+/// Lets the readers hear a file, and also adds the number of bytes of the tape that are left.
 pub fn hear<R: Threads + Sync>(
     rt: &R,
     alloc: Global,
@@ -80,7 +79,7 @@ pub fn hear<R: Threads + Sync>(
     }
 }
 
-/// Lets the readers hear each front of the tape; told are the lengths at which what came is another, and that.
+/// Lets the readers hear each front of the tape, and adds the lengths at which the result changes, with that result.
 pub fn fronts<R: Threads + Sync>(
     rt: &R,
     alloc: Global,

@@ -1,8 +1,8 @@
-//! Plays cases of scripts that are aired by pieces, and of tapes that are heard by pieces.
+//! Plays cases of scripts that are aired in pieces, and of tapes that are heard in pieces.
 //!
-//! `deck` and `tape` begin a file, and `more` and `repeat` go on with the deck. `sizes` has a number of starts more, and tells how long the
-//! script's tape is and how many cycles a piece of it has; `air` has how many cycles a piece has, and airs the script to all readers, `run`
-//! to a mast alone; `hear` and `fronts` let the deck's readers hear the tape.
+//! `deck` and `tape` begin a file, and `more` and `repeat` continue the deck. `sizes` takes a number of further starts, and adds the length of the
+//! script's tape and the number of cycles of a piece of it. `air` takes the number of cycles of a piece, and airs the script to all readers; `run`
+//! airs it to a mast alone. `hear` and `fronts` let the deck's readers hear the tape.
 #![tactic(auto)]
 
 mod airing;
@@ -20,7 +20,7 @@ use std::alloc::Global;
 use std::io;
 use std::thread::Threads;
 
-/// The text of the deck and the tape, and the threads by which readers hear.
+/// The text of the deck and the tape, and the threads on which readers hear.
 #[derive(Drop)]
 struct Pieces<'r, R> {
     rt: &'r R,

@@ -1,6 +1,6 @@
 //! The lines of reports, pieces and tapes.
 //!
-//! A report is told as it is written. Of a piece and of a tape only numbers are told: how long they are, and a tape's sum.
+//! A report is written out. For a piece and for a tape there are only numbers: their lengths, and a tape's sum.
 
 use air_base::NoMemory;
 use air_base::limits::MOST_EVENTS;
@@ -31,8 +31,8 @@ pub fn add_report(
     write_report(alloc, &report, came)
 }
 
-/// Adds a piece to the tape so far, and its line: how many starts are among the events from number `first` on, how many bytes the piece
-/// has, and how many events there are.
+/// Adds a piece to the tape so far, and its line: the number of starts among the events from number `first` on, the number of bytes of the piece, and
+/// the number of events.
 pub fn add_piece(
     events: &[Event],
     first: usize,
@@ -51,7 +51,7 @@ pub fn add_piece(
     add_line(b"piece", &numbers, came)
 }
 
-/// Adds how many bytes the tape has, and the sum of them.
+/// Adds the number of bytes of the tape, and their sum.
 pub fn add_tape(tape: &[u8], came: &mut Vec<u8>) -> Result<(), NoMemory> {
     add_line(b"tape", &[tape.len() as u64, sum_of(tape)], came)
 }

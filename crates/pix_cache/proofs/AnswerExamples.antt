@@ -1,4 +1,4 @@
--- What becomes of a newcomer to small caches: where it finds room, and where it is the least.
+-- What is done with a newcomer to small caches: where it finds room, and where it is the least.
 use Rattle.std.proofs.Common.{◌<◌, ◌≤◌, ℕ, List, [], ◌∷◌, IsTrue, false, true, refl, arith}
 use Rattle.std.proofs.lemmas.Bool.{false≢true}
 use Rattle.std.proofs.lemmas.List.Elements.{All-from_recursion}
@@ -31,11 +31,11 @@ has_copy : HasCopy two (of_item 3)
 unfolding copy_among
 has_copy = refl
 
--- Item 0 has the least PIX number of the three, and there is no room.
+-- Item 0 has the least PIX number of the three, and there is no copy slot.
 is_least : IsLeastCopy 2 pix two (of_item 0)
 unfolding copy_among
 is_least = ((refl, omega arith), All-from_recursion (λ r. IsTrue (goes_before pix r (of_item 0))) two (refl, (refl, tt)))
 
--- Item 2 isn't: it goes before item 3; and where there is room none is.
+-- Item 2 isn't the least: it goes before item 3; and if there is room, no copy is.
 not_least : (IsLeastCopy 2 pix two (of_item 2) → ⊥) × (IsLeastCopy 3 pix two (of_item 0) → ⊥)
 not_least = (λ h. false≢true (h.1 1 (of_item 0) (omega arith)), λ h. let full : 3 ≤ 2 = h.0.1 in omega arith)

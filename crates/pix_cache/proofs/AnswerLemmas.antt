@@ -1,4 +1,4 @@
--- The four answers exclude one another, so each comes exactly where it says.
+-- The four answers exclude one another, so each is given if and only if its condition holds.
 use Rattle.std.proofs.Common.{◌≡◌, ℕ, true, ◌==◌, ◌↔◌, List, [], ◌∷◌, All, Some, None, IsTrue, refl, sym, ◌∙◌, ap, subst, arith, ◌⊎◌, inl, inr}
 use Rattle.std.specs.Option.{is_some}
 use Rattle.std.proofs.lemmas.Bool.{cases_eq, eqb-true, false≢true}
@@ -11,14 +11,14 @@ use Rattle.pix_cache.specs.declared.cache.KeepAnswer.TheVariants.{Replaced, Plac
 use Rattle.pix_cache.specs.Caches.{FindsRoom, GivesWay, HasCopy, IsLeastCopy, copy_among}
 use Rattle.pix_cache.specs.Private.KeepAnswers.{IsKeepAnswer}
 
--- Of two copies not both go before the other.
+-- Of two copies, at most one goes before the other.
 not_both : (pix : List ℕ) (a b : Read) → goes_before pix b a ≡ true → goes_before pix a b ≡ true → ⊥
 not_both pix a b first second =
     let less = rank_less pix (a ∷ b ∷ []) 1 a a (omega arith) first in
     let more = rank_less pix (a ∷ b ∷ []) 0 a b (omega arith) second in
     omega arith
 
--- What holds of all copies, holds of an item's; and that copy is of the item.
+-- What holds of all copies holds of an item's copy, and that copy is of the item.
 of_copy : (Q : Read → Type 0) (item : ℕ) (copies : List Read) (r : Read) → All Q copies → copy_among item copies ≡ Some r → Q r × (r.item ≡ item)
 unfolding copy_among
 of_copy Q item copies r all e = let f = find_is Q (λ r. r.item == item) copies all (Some r) e in (f.0, eqb-true r.item item f.1)
@@ -28,11 +28,11 @@ module _ (room : ℕ) (pix : List ℕ) (copies : List Read) (x : Read) where
   one_of_two : HasCopy copies x → copy_among x.item copies ≡ None → ⊥
   one_of_two has none = false≢true (sym (ap is_some none) ∙ has)
 
-  -- The newcomer isn't the least of all where another copy gives way.
+  -- The newcomer isn't the least of all if another copy gives way.
   not_least : (item : ℕ) → IsLeastCopy room pix copies x → GivesWay room pix copies x item → ⊥
   not_least item least gives = not_both pix x gives.1 (of_copy (λ r. IsTrue (goes_before pix r x)) item copies gives.1 least.1 gives.2).0 gives.3
 
-  -- One copy alone gives way.
+  -- Only one copy gives way.
   same_item : (m n : ℕ) → GivesWay room pix copies x m → GivesWay room pix copies x n → m ≡ n
   same_item m n g h = by (cases_eq m n)
     where
@@ -57,28 +57,28 @@ module _ (room : ℕ) (pix : List ℕ) (copies : List Read) (x : Read) where
       by (inl e) = e
       by (inr ne) = absurd (ordered ne s_left.0 r_left.0)
 
-  -- `Replaced` comes exactly where a copy of the item is kept.
+  -- The answer is `Replaced` if and only if a copy of the item is kept.
   pub exactly_replaced : (a : KeepAnswer) → IsKeepAnswer room pix copies x a → (a ≡ Replaced) ↔ HasCopy copies x
   exactly_replaced Replaced h = ((λ _. h), (λ _. refl))
   exactly_replaced Placed h = ((λ e. cc), (λ has. absurd (one_of_two has h.0)))
   exactly_replaced Declined h = ((λ e. cc), (λ has. absurd (one_of_two has h.0.0)))
   exactly_replaced (Evicted m) h = ((λ e. cc), (λ has. absurd (one_of_two has h.0.0)))
 
-  -- `Placed` comes exactly where the newcomer finds room.
+  -- The answer is `Placed` if and only if the newcomer finds room.
   pub exactly_placed : (a : KeepAnswer) → IsKeepAnswer room pix copies x a → (a ≡ Placed) ↔ FindsRoom room copies x
   exactly_placed Replaced h = ((λ e. cc), (λ finds. absurd (one_of_two h finds.0)))
   exactly_placed Placed h = ((λ _. h), (λ _. refl))
   exactly_placed Declined h = ((λ e. cc), (λ finds. absurd (let a = finds.1 in let b = h.0.1 in omega arith)))
   exactly_placed (Evicted m) h = ((λ e. cc), (λ finds. absurd (let a = finds.1 in let b = h.0.1 in omega arith)))
 
-  -- `Declined` comes exactly where the newcomer is the least of all.
+  -- The answer is `Declined` if and only if the newcomer is the least of all.
   pub exactly_declined : (a : KeepAnswer) → IsKeepAnswer room pix copies x a → (a ≡ Declined) ↔ IsLeastCopy room pix copies x
   exactly_declined Replaced h = ((λ e. cc), (λ least. absurd (one_of_two h least.0.0)))
   exactly_declined Placed h = ((λ e. cc), (λ least. absurd (let a = h.1 in let b = least.0.1 in omega arith)))
   exactly_declined Declined h = ((λ _. h), (λ _. refl))
   exactly_declined (Evicted m) h = ((λ e. cc), (λ least. absurd (not_least m least h)))
 
-  -- `Evicted` comes exactly for the item whose copy gives way.
+  -- The answer is `Evicted` of an item if and only if that item's copy gives way.
   pub exactly_evicted : (a : KeepAnswer) → IsKeepAnswer room pix copies x a → (item : ℕ) → (a ≡ Evicted item) ↔ GivesWay room pix copies x item
   exactly_evicted Replaced h item = ((λ e. cc), (λ gives. absurd (one_of_two h gives.0.0)))
   exactly_evicted Placed h item = ((λ e. cc), (λ gives. absurd (let a = h.1 in let b = gives.0.1 in omega arith)))

@@ -1,4 +1,4 @@
--- The copies that the fields of a cache hold, and what each call changes of them.
+-- The copies that the fields of a cache hold, and what each call changes in them.
 use Rattle.std.proofs.Common.{◌≡◌, ◌≢◌, ℕ, suc, ◌+◌, ◌<◌, ◌≤◌, Bool, cond, List, [], ◌∷◌, length, get_or, Option, Some, None, refl, sym, ◌∙◌, ap, arith, ◌⊎◌, inl, inr, length-set}
 use Rattle.std.specs.List.{count_by}
 use Rattle.std.specs.Option.{is_some, option_map}
@@ -19,34 +19,34 @@ use Rattle.pix_cache.proofs.SomeLemmas.{Placed, copy_is, count_somes, without_is
 pub long : (stores : List StoredCopy) (places : List (Option ℕ)) → length (copies_in_store stores places) ≡ length places
 long stores places = length-map-range_with_len (λ item. option_map (stored_read stores item) (get_or places item None)) 0 (length places)
 
--- At an item's place stands what its room holds.
+-- At an item's place is what its copy slot holds.
 pub at_place : (stores : List StoredCopy) (places : List (Option ℕ)) (item : ℕ) → item < length places → get_or (copies_in_store stores places) item None ≡ option_map (stored_read stores item) (get_or places item None)
 at_place stores places item l = get_or-map-range_with_len (λ item. option_map (stored_read stores item) (get_or places item None)) 0 (length places) item item None l (omega arith)
 
--- Each copy stands at its item's place.
+-- Each copy is at its item's place.
 pub placed : (stores : List StoredCopy) (places : List (Option ℕ)) → Placed 0 (copies_in_store stores places)
 placed stores places k r e = by (cases_lt k (length places))
   where
     item : (o : Option ℕ) → option_map (stored_read stores k) o ≡ Some r → r.item ≡ k
     item None f = cc
-    item (Some slot) f = let same : Some (stored_read stores k slot) ≡ Some r = f in let s : stored_read stores k slot ≡ r = cc in sym (ap (λ x. x.item) s)
+    item (Some copy_slot) f = let same : Some (stored_read stores k copy_slot) ≡ Some r = f in let s : stored_read stores k copy_slot ≡ r = cc in sym (ap (λ x. x.item) s)
 
     by : (k < length places) ⊎ (length places ≤ k) → r.item ≡ 0 + k
     by (inl l) = let i = item (get_or places k None) (sym (at_place stores places k l) ∙ e) in omega arith
     by (inr past) = let none : get_or (copies_in_store stores places) k None ≡ None = get_or_past (copies_in_store stores places) k None (omega (arith, long stores places)) in cc
 
--- The copy of an item with a room is what the room holds.
-pub kept_copy : (stores : List StoredCopy) (places : List (Option ℕ)) (item slot : ℕ) → item < length places → get_or places item None ≡ Some slot → copy_among item (somes (copies_in_store stores places)) ≡ Some (stored_read stores item slot)
-kept_copy stores places item slot l e =
+-- The copy of an item with a copy slot is what the copy slot holds.
+pub kept_copy : (stores : List StoredCopy) (places : List (Option ℕ)) (item copy_slot : ℕ) → item < length places → get_or places item None ≡ Some copy_slot → copy_among item (somes (copies_in_store stores places)) ≡ Some (stored_read stores item copy_slot)
+kept_copy stores places item copy_slot l e =
     copy_is (copies_in_store stores places) item (omega (arith, long stores places)) (placed stores places) ∙ at_place stores places item l ∙ ap (option_map (stored_read stores item)) e
 
--- An item without a room has no copy.
+-- An item without a copy slot has no copy.
 pub no_copy : (stores : List StoredCopy) (places : List (Option ℕ)) (item : ℕ) → item < length places → get_or places item None ≡ None → copy_among item (somes (copies_in_store stores places)) ≡ None
 no_copy stores places item l e =
     copy_is (copies_in_store stores places) item (omega (arith, long stores places)) (placed stores places) ∙ at_place stores places item l ∙ ap (option_map (stored_read stores item)) e
 
 -- ---- how many
--- Two lists that pass alike at each place have as many that pass.
+-- If at each place two lists both pass or both fail, equally many of both pass.
 count_same : {X Y : Type 0} (p : X → Bool) (q : Y → Bool) (xs : List X) (ys : List Y) (d : X) (e : Y) → length xs ≡ length ys → ((k : ℕ) → k < length xs → p (get_or xs k d) ≡ q (get_or ys k e)) → count_by p xs ≡ count_by q ys
 count_same p q [] [] d e l h = refl
 count_same p q [] (y ∷ ys) d e l h = absurd (omega arith)
@@ -62,46 +62,46 @@ is_some_map : {X Y : Type 0} (f : X → Y) (o : Option X) → is_some (option_ma
 is_some_map f None = refl
 is_some_map f (Some x) = refl
 
--- There are as many copies as items with a room.
+-- There are as many copies as items with a copy slot.
 pub how_many : (stores : List StoredCopy) (places : List (Option ℕ)) → length (somes (copies_in_store stores places)) ≡ count_by is_some places
 how_many stores places = count_somes (copies_in_store stores places) ∙ count_same is_some is_some (copies_in_store stores places) places None None (long stores places) (λ k l.
     ap is_some (at_place stores places k (omega (arith, long stores places))) ∙ is_some_map (stored_read stores k) (get_or places k None))
 
 -- ---- one copy changed
--- Two lists with the same at each place are the same.
+-- Two lists with equal elements at each place are equal.
 pub by_place : (os rs : List (Option Read)) → length os ≡ length rs → ((k : ℕ) → k < length os → get_or os k None ≡ get_or rs k None) → os ≡ rs
 by_place os rs l h = same_lists os rs l (λ k d m. get_or_default os k d None m ∙ h k m ∙ get_or_default rs k None d (omega arith))
 
--- What is read in one room is the same after a change of another.
-pub same_read : (stores : List StoredCopy) (slot : ℕ) (st : StoredCopy) (k : ℕ) (o : Option ℕ) → o ≢ Some slot → option_map (stored_read (set stores slot st) k) o ≡ option_map (stored_read stores k) o
-same_read stores slot st k None ne = refl
-same_read stores slot st k (Some t) ne = ap (λ (s : StoredCopy). Some (copy k s.cycle s.value s.entries)) (get_or-set_other stores slot t st no_store (λ same. ne (ap Some same)))
+-- What is read in one copy slot doesn't change with another.
+pub same_read : (stores : List StoredCopy) (copy_slot : ℕ) (st : StoredCopy) (k : ℕ) (o : Option ℕ) → o ≢ Some copy_slot → option_map (stored_read (set stores copy_slot st) k) o ≡ option_map (stored_read stores k) o
+same_read stores copy_slot st k None ne = refl
+same_read stores copy_slot st k (Some t) ne = ap (λ (s : StoredCopy). Some (copy k s.cycle s.value s.entries)) (get_or-set_other stores copy_slot t st no_store (λ same. ne (ap Some same)))
 
--- A copy put into a room of its own stands at its item's place, and all others stay.
-pub put_is : (stores : List StoredCopy) (places : List (Option ℕ)) (item slot : ℕ) (st : StoredCopy) → item < length places → slot < length stores →
-    ((k : ℕ) → k < length places → k ≢ item → get_or places k None ≢ Some slot) →
-    copies_in_store (set stores slot st) (set places item (Some slot)) ≡ set (copies_in_store stores places) item (Some (copy item st.cycle st.value st.entries))
-put_is stores places item slot st li ls apart =
-    by_place (copies_in_store (set stores slot st) (set places item (Some slot))) (set (copies_in_store stores places) item (Some x))
-    (long (set stores slot st) (set places item (Some slot)) ∙ length-set places item (Some slot) ∙ sym (long stores places) ∙ sym (length-set (copies_in_store stores places) item (Some x)))
-    (λ k l. (let short : k < length places = omega (arith, long (set stores slot st) (set places item (Some slot)), length-set places item (Some slot)) in
-    at_place (set stores slot st) (set places item (Some slot)) k (omega (arith, length-set places item (Some slot))) ∙ by k short (cases_eq k item)))
+-- A copy put into a copy slot of its own is at its item's place, and all others stay.
+pub put_is : (stores : List StoredCopy) (places : List (Option ℕ)) (item copy_slot : ℕ) (st : StoredCopy) → item < length places → copy_slot < length stores →
+    ((k : ℕ) → k < length places → k ≢ item → get_or places k None ≢ Some copy_slot) →
+    copies_in_store (set stores copy_slot st) (set places item (Some copy_slot)) ≡ set (copies_in_store stores places) item (Some (copy item st.cycle st.value st.entries))
+put_is stores places item copy_slot st li ls apart =
+    by_place (copies_in_store (set stores copy_slot st) (set places item (Some copy_slot))) (set (copies_in_store stores places) item (Some x))
+    (long (set stores copy_slot st) (set places item (Some copy_slot)) ∙ length-set places item (Some copy_slot) ∙ sym (long stores places) ∙ sym (length-set (copies_in_store stores places) item (Some x)))
+    (λ k l. (let short : k < length places = omega (arith, long (set stores copy_slot st) (set places item (Some copy_slot)), length-set places item (Some copy_slot)) in
+    at_place (set stores copy_slot st) (set places item (Some copy_slot)) k (omega (arith, length-set places item (Some copy_slot))) ∙ by k short (cases_eq k item)))
   where
     x : Read
     x = copy item st.cycle st.value st.entries
 
-    by : (k : ℕ) → k < length places → (k ≡ item) ⊎ (k ≡ item → ⊥) → option_map (stored_read (set stores slot st) k) (get_or (set places item (Some slot)) k None) ≡ get_or (set (copies_in_store stores places) item (Some x)) k None
+    by : (k : ℕ) → k < length places → (k ≡ item) ⊎ (k ≡ item → ⊥) → option_map (stored_read (set stores copy_slot st) k) (get_or (set places item (Some copy_slot)) k None) ≡ get_or (set (copies_in_store stores places) item (Some x)) k None
     by k short (inl same) =
-        ap (λ j. option_map (stored_read (set stores slot st) j) (get_or (set places item (Some slot)) j None)) same
-        ∙ ap (option_map (stored_read (set stores slot st) item)) (get_or-set_same places item (Some slot) None li)
-        ∙ ap (λ (s : StoredCopy). Some (copy item s.cycle s.value s.entries)) (get_or-set_same stores slot st no_store ls)
+        ap (λ j. option_map (stored_read (set stores copy_slot st) j) (get_or (set places item (Some copy_slot)) j None)) same
+        ∙ ap (option_map (stored_read (set stores copy_slot st) item)) (get_or-set_same places item (Some copy_slot) None li)
+        ∙ ap (λ (s : StoredCopy). Some (copy item s.cycle s.value s.entries)) (get_or-set_same stores copy_slot st no_store ls)
         ∙ sym (ap (λ j. get_or (set (copies_in_store stores places) item (Some x)) j None) same ∙ get_or-set_same (copies_in_store stores places) item (Some x) None (omega (arith, long stores places)))
     by k short (inr other) =
-        ap (option_map (stored_read (set stores slot st) k)) (get_or-set_other places item k (Some slot) None other)
-        ∙ same_read stores slot st k (get_or places k None) (apart k short other)
+        ap (option_map (stored_read (set stores copy_slot st) k)) (get_or-set_other places item k (Some copy_slot) None other)
+        ∙ same_read stores copy_slot st k (get_or places k None) (apart k short other)
         ∙ sym (get_or-set_other (copies_in_store stores places) item k (Some x) None other ∙ at_place stores places k short)
 
--- A room taken from an item leaves its place empty, and all others stay.
+-- If a copy slot is taken from an item, the item's place is empty, and all others stay.
 pub cleared_is : (stores : List StoredCopy) (places : List (Option ℕ)) (item : ℕ) → item < length places → copies_in_store stores (set places item None) ≡ set (copies_in_store stores places) item None
 cleared_is stores places item li =
     by_place (copies_in_store stores (set places item None)) (set (copies_in_store stores places) item None)
@@ -119,23 +119,23 @@ cleared_is stores places item li =
         ∙ sym (get_or-set_other (copies_in_store stores places) item k None None other ∙ at_place stores places k short)
 
 -- ---- what the code read and wrote
--- What the code read of a place is what stands there.
+-- What the code read of a place is what is there.
 pub read_place : (places : List (Option ℕ)) (item : ℕ) (r o : Option ℕ) → item < length places → r ≡ get_or places item r → r ≡ o → get_or places item None ≡ o
 read_place places item r o l e f = get_or_default places item None r l ∙ sym e ∙ f
 
 -- ---- a copy dropped
--- Without its room an item's copy is gone.
+-- Without its copy slot an item's copy is gone.
 pub dropped : (stores : List StoredCopy) (places : List (Option ℕ)) (item : ℕ) → item < length places → somes (copies_in_store stores (set places item None)) ≡ without_item item (somes (copies_in_store stores places))
 dropped stores places item l =
     ap somes (cleared_is stores places item l) ∙ sym (without_is (copies_in_store stores places) item (omega (arith, long stores places)) (placed stores places))
 
--- Where an item has no copy, to drop it changes nothing.
+-- If an item has no copy, dropping it changes nothing.
 pub none_dropped : (stores : List StoredCopy) (places : List (Option ℕ)) (item : ℕ) → item < length places → get_or places item None ≡ None → somes (copies_in_store stores places) ≡ without_item item (somes (copies_in_store stores places))
 none_dropped stores places item l e =
     ap (λ p. somes (copies_in_store stores p)) (sym (ap (set places item) (sym e) ∙ set-get_or places item None)) ∙ dropped stores places item l
 
 -- ---- no copies
--- Where no item has a room, there are no copies.
+-- If no item has a copy slot, there are no copies.
 pub none_at_all : (stores : List StoredCopy) (places : List (Option ℕ)) → ((i : ℕ) → i < length places → get_or places i None ≡ None) → somes (copies_in_store stores places) ≡ []
 none_at_all stores places none = empty (copies_in_store stores places) (λ k l. (let s : k < length places = omega (arith, long stores places) in at_place stores places k s ∙ ap (option_map (stored_read stores k)) (none k s)))
   where

@@ -1,4 +1,4 @@
--- The fields of a cache, as each call finds them, and what each call's clauses say of those that it leaves.
+-- The fields of a cache, as each call finds them, and what each call's clauses say of the fields that it leaves.
 use Rattle.std.proofs.Common.{◌≡◌, ℕ, ◌<◌, ◌≤◌, if◌then◌else◌, List, length, get_or, All, Option, Some, None, refl, sym, ◌∙◌, ap, subst, arith, length-set}
 use Rattle.std.proofs.Math.ListN.{set}
 use Rattle.air_model.specs.Reads.{Read}
@@ -27,25 +27,25 @@ module _ (i : Inside) (k : KeepsCopies i) (self : Cache) (view : cache_of i ≡ 
   pub within : item < length i.places.items
   within = let wide = ap (λ (s : Cache). length s.pix) view in omega (arith, k.items)
 
-  -- There is a leaf for each room.
+  -- There is a leaf for each copy slot.
   pub same : length i.store.stores ≡ length i.tree
-  same = sym k.rooms
+  same = sym k.copy_slots
 
   -- There are at most as many places as item numbers.
   pub small : length i.places.items ≤ 65536
   small = omega (arith, k.items, k.many)
 
-  -- The room of an item's copy is one of the rooms.
-  pub in_rooms : (slot : ℕ) → get_or i.places.items item None ≡ Some slot → slot < length i.store.stores
-  in_rooms slot e = let l = k.agree.within item slot within e in omega (arith, k.rooms)
+  -- The copy slot of an item's copy is one of the copy slots.
+  pub in_copy_slots : (copy_slot : ℕ) → get_or i.places.items item None ≡ Some copy_slot → copy_slot < length i.store.stores
+  in_copy_slots copy_slot e = let l = k.agree.within item copy_slot within e in omega (arith, k.copy_slots)
 
-  -- An item without a room has no copy.
+  -- An item without a copy slot has no copy.
   pub has_none : get_or i.places.items item None ≡ None → copy_among item self.copies ≡ None
   has_none none = subst (λ (s : Cache). copy_among item s.copies ≡ None) view (no_copy stores places item within none)
 
-  -- An item's copy is what its room holds.
-  pub has_copy : (slot : ℕ) → get_or i.places.items item None ≡ Some slot → copy_among item self.copies ≡ Some (stored_read i.store.stores item slot)
-  has_copy slot e = subst (λ (s : Cache). copy_among item s.copies ≡ Some (stored_read stores item slot)) view (kept_copy stores places item slot within e)
+  -- An item's copy is what its copy slot holds.
+  pub has_copy : (copy_slot : ℕ) → get_or i.places.items item None ≡ Some copy_slot → copy_among item self.copies ≡ Some (stored_read i.store.stores item copy_slot)
+  has_copy copy_slot e = subst (λ (s : Cache). copy_among item s.copies ≡ Some (stored_read stores item copy_slot)) view (kept_copy stores places item copy_slot within e)
 
   -- The cache with other copies.
   with_copies : (new copies : List Read) → new ≡ copies → ◌≡◌ {A = Cache} (record { room = length stores; pix = i.pix.items; copies = new }) (record { room = length stores; pix = i.pix.items; copies = copies })
@@ -62,32 +62,32 @@ module _ (i : Inside) (k : KeepsCopies i) (self : Cache) (view : cache_of i ≡ 
     abbrev x : Read
     x = copy item st.cycle st.value st.entries
 
-    -- The copies are those kept of all with the newcomer.
-    pub replace_form : (slot : ℕ) → get_or i.places.items item None ≡ Some slot → (new : List StoredCopy) → new ≡ set i.store.stores slot st →
+    -- The copies are those that are kept of all copies and the newcomer.
+    pub replace_form : (copy_slot : ℕ) → get_or i.places.items item None ≡ Some copy_slot → (new : List StoredCopy) → new ≡ set i.store.stores copy_slot st →
         ◌≡◌ {A = Cache} (record { room = length new; pix = i.pix.items; copies = somes (copies_in_store new i.places.items) }) (record { room = self.room; pix = self.pix; copies = keep self.room self.pix (with_copy (copy item st.cycle st.value st.entries) self.copies) })
-    replace_form slot e new put =
-        kept_form i.pix.items (length stores) (length i.tree) (length new) (somes (copies_in_store stores places)) _ x self view k.rooms (ap length put ∙ length-set stores slot st)
-        (replaced i.pix.items places i.tree stores k.agree same small item within st slot e ∙ ap (λ (t : List StoredCopy). somes (copies_in_store t places)) (sym put))
+    replace_form copy_slot e new put =
+        kept_form i.pix.items (length stores) (length i.tree) (length new) (somes (copies_in_store stores places)) _ x self view k.copy_slots (ap length put ∙ length-set stores copy_slot st)
+        (replaced i.pix.items places i.tree stores k.agree same small item within st copy_slot e ∙ ap (λ (t : List StoredCopy). somes (copies_in_store t places)) (sym put))
 
     -- A newcomer that is lighter than all.
     module _ (none : get_or i.places.items item None ≡ None) (pix : ℕ) (number : get_or i.pix.items item 0 ≡ pix) (light : All (λ a. weight (copy_leaf 0 pix item) < weight a) i.tree) where
       lighter : (s : ℕ) → s < length i.tree → weight (new_leaf i.pix.items item 0) < weight (get_or i.tree s nowhere)
       lighter s l = let w = light s nowhere l in let n = ap (λ p. weight (copy_leaf 0 p item)) number in omega arith
 
-      -- The copies before are those kept of all with the newcomer.
+      -- The copies before are those that are kept of them and the newcomer.
       pub decline_form : self ≡ record { room = self.room; pix = self.pix; copies = keep self.room self.pix (with_copy (copy item st.cycle st.value st.entries) self.copies) }
       decline_form = sym view
-          ∙ kept_form i.pix.items (length stores) (length i.tree) (length stores) (somes (copies_in_store stores places)) _ x self view k.rooms refl (declined i.pix.items places i.tree stores k.agree same small item within st none 0 lighter)
+          ∙ kept_form i.pix.items (length stores) (length i.tree) (length stores) (somes (copies_in_store stores places)) _ x self view k.copy_slots refl (declined i.pix.items places i.tree stores k.agree same small item within st none 0 lighter)
 
       -- The newcomer is the least of all.
       pub decline_answer : IsLeastCopy self.room self.pix self.copies (copy item st.cycle st.value st.entries)
       decline_answer = subst (λ (s : Cache). IsLeastCopy s.room s.pix s.copies x) view (
-        (no_copy stores places item within none, (let full = declined_full i.pix.items places i.tree stores k.agree same small item within st none 0 lighter in omega (arith, k.rooms))),
+        (no_copy stores places item within none, (let full = declined_full i.pix.items places i.tree stores k.agree same small item within st none 0 lighter in omega (arith, k.copy_slots))),
         all_before i.pix.items places i.tree stores k.agree same small item within st none 0 lighter,
       )
 
-    -- A newcomer in the lightest room, by what is left of the places, of what the rooms hold and of the tree.
-    module _ (none : get_or i.places.items item None ≡ None) (pix : ℕ) (number : get_or i.pix.items item 0 ≡ pix) (r : Leaf) (lr : r.slot < length i.tree) (at : get_or i.tree r.slot nowhere ≡ r)
+    -- A newcomer in the lightest copy slot, from what is left of the places, of what the copy slots hold, and of the tree.
+    module _ (none : get_or i.places.items item None ≡ None) (pix : ℕ) (number : get_or i.pix.items item 0 ≡ pix) (r : Leaf) (lr : r.copy_slot < length i.tree) (at : get_or i.tree r.copy_slot nowhere ≡ r)
         (heavy : weight r ≤ weight (copy_leaf 0 pix item)) (light : All (λ a. weight r ≤ weight a) i.tree) (rest : List (Option ℕ)) (left : rest ≡ (if r.kept then set i.places.items r.item None else i.places.items)) where
       heavier : weight r ≤ weight (new_leaf i.pix.items item 0)
       heavier = let n = ap (λ p. weight (copy_leaf 0 p item)) number in omega arith
@@ -97,18 +97,18 @@ module _ (i : Inside) (k : KeepsCopies i) (self : Cache) (view : cache_of i ≡ 
           (subst (Outcome i.pix.items places i.tree stores k.agree same small item within st none r lr at heavier light (if r.kept then set places r.item None else places)) (sym said)
           (outcome i.pix.items places i.tree stores k.agree same small item within st none r lr at heavier light))
 
-      -- Rooms and items agree once the room has changed hands.
-      pub take_agree : (tree : List Leaf) → tree ≡ set i.tree r.slot (copy_leaf r.slot pix item) → Agree i.pix.items (set rest item (Some r.slot)) tree
-      take_agree tree put = subst (Agree i.pix.items (set rest item (Some r.slot))) (ap (λ p. set i.tree r.slot (copy_leaf r.slot p item)) number ∙ sym put) (taken _ refl).0
+      -- Copy slots and items agree once the copy slot has changed hands.
+      pub take_agree : (tree : List Leaf) → tree ≡ set i.tree r.copy_slot (copy_leaf r.copy_slot pix item) → Agree i.pix.items (set rest item (Some r.copy_slot)) tree
+      take_agree tree put = subst (Agree i.pix.items (set rest item (Some r.copy_slot))) (ap (λ p. set i.tree r.copy_slot (copy_leaf r.copy_slot p item)) number ∙ sym put) (taken _ refl).0
 
-      -- The copies are those kept of all with the newcomer.
-      pub take_form : (new : List StoredCopy) → new ≡ set i.store.stores r.slot st →
-          ◌≡◌ {A = Cache} (record { room = length new; pix = i.pix.items; copies = somes (copies_in_store new (set rest item (Some r.slot))) }) (record { room = self.room; pix = self.pix; copies = keep self.room self.pix (with_copy (copy item st.cycle st.value st.entries) self.copies) })
+      -- The copies are those that are kept of all copies and the newcomer.
+      pub take_form : (new : List StoredCopy) → new ≡ set i.store.stores r.copy_slot st →
+          ◌≡◌ {A = Cache} (record { room = length new; pix = i.pix.items; copies = somes (copies_in_store new (set rest item (Some r.copy_slot))) }) (record { room = self.room; pix = self.pix; copies = keep self.room self.pix (with_copy (copy item st.cycle st.value st.entries) self.copies) })
       take_form new put =
-          kept_form i.pix.items (length stores) (length i.tree) (length new) (somes (copies_in_store stores places)) _ x self view k.rooms (ap length put ∙ length-set stores r.slot st)
-          ((taken _ refl).1 ∙ ap (λ (t : List StoredCopy). somes (copies_in_store t (set rest item (Some r.slot)))) (sym put))
+          kept_form i.pix.items (length stores) (length i.tree) (length new) (somes (copies_in_store stores places)) _ x self view k.copy_slots (ap length put ∙ length-set stores r.copy_slot st)
+          ((taken _ refl).1 ∙ ap (λ (t : List StoredCopy). somes (copies_in_store t (set rest item (Some r.copy_slot)))) (sym put))
 
-      -- The answer names what became of the newcomer.
+      -- The answer says what was done with the newcomer.
       pub take_answer : (answer : KeepAnswer) → answer ≡ (if r.kept then Evicted r.item else Placed) → IsKeepAnswer self.room self.pix self.copies (copy item st.cycle st.value st.entries) answer
       take_answer answer said = subst (λ (s : Cache). IsKeepAnswer s.room s.pix s.copies x answer) view
-          (subst (λ n. IsKeepAnswer n i.pix.items (somes (copies_in_store stores places)) x answer) k.rooms (taken answer said).2)
+          (subst (λ n. IsKeepAnswer n i.pix.items (somes (copies_in_store stores places)) x answer) k.copy_slots (taken answer said).2)

@@ -1,4 +1,4 @@
--- What becomes of a newcomer: by its item's copy, by an empty room, or by the weight of the least copy.
+-- What is done with a newcomer: by its item's copy, by an empty copy slot, or by the weight of the least copy.
 use Rattle.std.proofs.Common.{◌≡◌, ◌≢◌, ℕ, ◌+◌, ◌<◌, ◌≤◌, Bool, true, false, ◌==◌, if◌then◌else◌, List, length, get_or, All, Option, Some, None, IsTrue, refl, sym, ◌∙◌, ap, subst, arith, ◌⊎◌, inl, inr, length-set}
 use Rattle.std.specs.List.{count_by}
 use Rattle.std.specs.Option.{is_some, option_map}
@@ -43,13 +43,13 @@ module _ (pix : List ℕ) (places : List (Option ℕ)) (leaves : List Leaf) (sto
   joined = with_is os item long_os x refl (placed stores places)
 
   -- The item's own copy.
-  alone : (slot : ℕ) → get_or places item None ≡ Some slot → (k : ℕ) → k < length places → k ≢ item → get_or places k None ≢ Some slot
-  alone slot e k l ne f = ne (ap (λ (b : Leaf). b.item) (sym (a.leaf k slot l f) ∙ a.leaf item slot li e))
+  alone : (copy_slot : ℕ) → get_or places item None ≡ Some copy_slot → (k : ℕ) → k < length places → k ≢ item → get_or places k None ≢ Some copy_slot
+  alone copy_slot e k l ne f = ne (ap (λ (b : Leaf). b.item) (sym (a.leaf k copy_slot l f) ∙ a.leaf item copy_slot li e))
 
   -- A copy in place of that of its item: all stay.
-  pub replaced : (slot : ℕ) → get_or places item None ≡ Some slot → keep (length leaves) pix (with_copy x copies) ≡ somes (copies_in_store (set stores slot st) places)
-  replaced slot e =
-      let within = a.within item slot li e in
+  pub replaced : (copy_slot : ℕ) → get_or places item None ≡ Some copy_slot → keep (length leaves) pix (with_copy x copies) ≡ somes (copies_in_store (set stores copy_slot st) places)
+  replaced copy_slot e =
+      let within = a.within item copy_slot li e in
       ap (keep (length leaves) pix) joined
       ∙ keep_all (length leaves) pix (somes (set os item (Some x)))
       (let n = count_somes (set os item (Some x)) in
@@ -57,8 +57,8 @@ module _ (pix : List ℕ) (places : List (Option ℕ)) (leaves : List Leaf) (sto
       let one = counts is_some os item (Some x) None true true long_os (ap is_some (at_place stores places item li ∙ ap (option_map (stored_read stores item)) e)) refl in
       let few = count_by-le-length (λ (l : Leaf). l.kept) leaves in
       let s = size in omega arith)
-      ∙ sym (ap somes (ap (copies_in_store (set stores slot st)) (sym (ap (set places item) (sym e) ∙ set-get_or places item None))
-      ∙ put_is stores places item slot st li (omega arith) (alone slot e)))
+      ∙ sym (ap somes (ap (copies_in_store (set stores copy_slot st)) (sym (ap (set places item) (sym e) ∙ set-get_or places item None))
+      ∙ put_is stores places item copy_slot st li (omega arith) (alone copy_slot e)))
 
   module _ (none : get_or places item None ≡ None) where
     nothing_here : get_or os item None ≡ None
@@ -71,39 +71,39 @@ module _ (pix : List ℕ) (places : List (Option ℕ)) (leaves : List Leaf) (sto
         let one = counts is_some os item (Some x) None false true long_os (ap is_some nothing_here) refl in
         omega arith
 
-    -- A free room.
-    free_alone : (slot : ℕ) → (get_or leaves slot nowhere).kept ≡ false → (k : ℕ) → k < length places → k ≢ item → get_or places k None ≢ Some slot
-    free_alone slot free k l ne f = let t : true ≡ false = sym (ap (λ (b : Leaf). b.kept) (a.leaf k slot l f)) ∙ free in cc
+    -- A free copy slot.
+    free_alone : (copy_slot : ℕ) → (get_or leaves copy_slot nowhere).kept ≡ false → (k : ℕ) → k < length places → k ≢ item → get_or places k None ≢ Some copy_slot
+    free_alone copy_slot free k l ne f = let t : true ≡ false = sym (ap (λ (b : Leaf). b.kept) (a.leaf k copy_slot l f)) ∙ free in cc
 
-    -- An empty room is one more than there are copies.
-    pub fewer : (slot : ℕ) → slot < length leaves → (get_or leaves slot nowhere).kept ≡ false → length copies < length leaves
-    fewer slot ls free = let f = some_fails (λ (l : Leaf). l.kept) leaves slot nowhere ls free in let s = size in omega arith
+    -- If a copy slot is empty, there are fewer copies than copy slots.
+    pub fewer : (copy_slot : ℕ) → copy_slot < length leaves → (get_or leaves copy_slot nowhere).kept ≡ false → length copies < length leaves
+    fewer copy_slot ls free = let f = some_fails (λ (l : Leaf). l.kept) leaves copy_slot nowhere ls free in let s = size in omega arith
 
-    -- A newcomer in an empty room: all stay.
-    pub put_in : (slot : ℕ) → slot < length leaves → (get_or leaves slot nowhere).kept ≡ false → keep (length leaves) pix (with_copy x copies) ≡ somes (copies_in_store (set stores slot st) (set places item (Some slot)))
-    put_in slot ls free =
+    -- A newcomer in an empty copy slot: all stay.
+    pub put_in : (copy_slot : ℕ) → copy_slot < length leaves → (get_or leaves copy_slot nowhere).kept ≡ false → keep (length leaves) pix (with_copy x copies) ≡ somes (copies_in_store (set stores copy_slot st) (set places item (Some copy_slot)))
+    put_in copy_slot ls free =
         ap (keep (length leaves) pix) joined
-        ∙ keep_all (length leaves) pix (somes (set os item (Some x))) (let f = fewer slot ls free in let m = one_more in omega arith)
-        ∙ sym (ap somes (put_is stores places item slot st li (omega arith) (free_alone slot free)))
+        ∙ keep_all (length leaves) pix (somes (set os item (Some x))) (let f = fewer copy_slot ls free in let m = one_more in omega arith)
+        ∙ sym (ap somes (put_is stores places item copy_slot st li (omega arith) (free_alone copy_slot free)))
 
     -- The leaf of another copy.
-    leaf_of : (k : ℕ) (s : Read) → k < length places → get_or os k None ≡ Some s → (slot : ℕ) × (slot < length leaves) × (get_or leaves slot nowhere ≡ new_leaf pix k slot) × (s.item ≡ k)
+    leaf_of : (k : ℕ) (s : Read) → k < length places → get_or os k None ≡ Some s → (copy_slot : ℕ) × (copy_slot < length leaves) × (get_or leaves copy_slot nowhere ≡ new_leaf pix k copy_slot) × (s.item ≡ k)
     leaf_of k s l e = by (get_or places k None) refl (sym (at_place stores places k l) ∙ e)
       where
-        by : (o : Option ℕ) → get_or places k None ≡ o → option_map (stored_read stores k) (get_or places k None) ≡ Some s → (slot : ℕ) × (slot < length leaves) × (get_or leaves slot nowhere ≡ new_leaf pix k slot) × (s.item ≡ k)
+        by : (o : Option ℕ) → get_or places k None ≡ o → option_map (stored_read stores k) (get_or places k None) ≡ Some s → (copy_slot : ℕ) × (copy_slot < length leaves) × (get_or leaves copy_slot nowhere ≡ new_leaf pix k copy_slot) × (s.item ≡ k)
         by None f g = let h : None ≡ Some s = sym (ap (option_map (stored_read stores k)) f) ∙ g in cc
-        by (Some slot) f g =
-            let h : Some (stored_read stores k slot) ≡ Some s = sym (ap (option_map (stored_read stores k)) f) ∙ g in
-            let i : stored_read stores k slot ≡ s = cc in
-            (slot, a.within k slot l f, a.leaf k slot l f, sym (ap (λ (r : Read). r.item) i))
+        by (Some copy_slot) f g =
+            let h : Some (stored_read stores k copy_slot) ≡ Some s = sym (ap (option_map (stored_read stores k)) f) ∙ g in
+            let i : stored_read stores k copy_slot ≡ s = cc in
+            (copy_slot, a.within k copy_slot l f, a.leaf k copy_slot l f, sym (ap (λ (r : Read). r.item) i))
 
-    -- Where each room weighs something, all rooms are taken.
+    -- If each copy slot has a weight above 0, all copy slots are taken.
     full : ((s : ℕ) → s < length leaves → 0 < weight (get_or leaves s nowhere)) → length copies ≡ length leaves
     full heavy = size ∙ all_pass (λ (l : Leaf). l.kept) leaves (λ k d l. subst (λ (b : Leaf). b.kept ≡ true) (get_or_default leaves k nowhere d l) (heavy_kept (get_or leaves k nowhere) (heavy k l)))
 
-    -- The newcomer is lighter than each.
+    -- The newcomer is lighter than each copy.
     module _ (n : ℕ) (lighter : (s : ℕ) → s < length leaves → weight (new_leaf pix item n) < weight (get_or leaves s nowhere)) where
-      -- All rooms are taken.
+      -- All copy slots are taken.
       pub declined_full : length copies ≡ length leaves
       declined_full = full (λ s l. let w = lighter s l in omega arith)
 
@@ -132,27 +132,27 @@ module _ (pix : List ℕ) (places : List (Option ℕ)) (leaves : List Leaf) (sto
           (λ k s l e ne. behind k s (omega (arith, length-set os item (Some x), long stores places)) (sym (get_or-set_other os item k (Some x) None ne) ∙ e) ne)
           ∙ ap somes (set-set os item (Some x) None ∙ ap (set os item) (sym nothing_here) ∙ set-get_or os item None)
 
-    -- Another is lighter than each, and than the newcomer.
-    module _ (m slot n : ℕ) (lm : m < length places) (its : get_or places m None ≡ Some slot) (least : (s : ℕ) → s < length leaves → weight (get_or leaves slot nowhere) ≤ weight (get_or leaves s nowhere))
-        (heavier : weight (get_or leaves slot nowhere) ≤ weight (new_leaf pix item n)) where
+    -- Another copy is lighter than each copy, and than the newcomer.
+    module _ (m copy_slot n : ℕ) (lm : m < length places) (its : get_or places m None ≡ Some copy_slot) (least : (s : ℕ) → s < length leaves → weight (get_or leaves copy_slot nowhere) ≤ weight (get_or leaves s nowhere))
+        (heavier : weight (get_or leaves copy_slot nowhere) ≤ weight (new_leaf pix item n)) where
       abbrev r : Read
-      r = stored_read stores m slot
+      r = stored_read stores m copy_slot
 
       other_item : m ≢ item
-      other_item i = let f : None ≡ Some slot = sym none ∙ ap (λ j. get_or places j None) (sym i) ∙ its in cc
+      other_item i = let f : None ≡ Some copy_slot = sym none ∙ ap (λ j. get_or places j None) (sym i) ∙ its in cc
 
-      some_weight : 0 < weight (get_or leaves slot nowhere)
-      some_weight = let e = ap weight (a.leaf m slot lm its) in omega arith
+      some_weight : 0 < weight (get_or leaves copy_slot nowhere)
+      some_weight = let e = ap weight (a.leaf m copy_slot lm its) in omega arith
 
-      -- All rooms are taken.
+      -- All copy slots are taken.
       pub evicted_full : length copies ≡ length leaves
       evicted_full = full (λ s l. let w = least s l in let p = some_weight in omega arith)
 
-      -- The newcomer goes before the copy in that room.
+      -- The newcomer goes before the copy in that copy slot.
       pub newcomer_before : goes_before pix x r ≡ true
       newcomer_before =
-          let e = ap weight (a.leaf m slot lm its) in
-          goes pix x r (new_leaf pix m slot) (new_leaf pix item n) refl refl refl refl refl refl (omega arith) (omega arith) other_item (omega arith)
+          let e = ap weight (a.leaf m copy_slot lm its) in
+          goes pix x r (new_leaf pix m copy_slot) (new_leaf pix item n) refl refl refl refl refl refl (omega arith) (omega arith) other_item (omega arith)
 
       rest_before : (k : ℕ) (s : Read) → k < length places → get_or os k None ≡ Some s → k ≢ m → goes_before pix s r ≡ true
       rest_before k s l e ne =
@@ -161,10 +161,10 @@ module _ (pix : List ℕ) (places : List (Option ℕ)) (leaves : List Leaf) (sto
           let leaf = f.2 in
           let at = f.3 in
           let heavy = ap weight leaf in
-          let light = ap weight (a.leaf m slot lm its) in
-          goes pix s r (new_leaf pix m slot) (new_leaf pix k f.0) refl refl refl (sym at) refl (ap (λ j. get_or pix j 0) (sym at)) (omega arith) (omega arith) (λ i. ne (sym at ∙ sym i)) (omega arith)
+          let light = ap weight (a.leaf m copy_slot lm its) in
+          goes pix s r (new_leaf pix m copy_slot) (new_leaf pix k f.0) refl refl refl (sym at) refl (ap (λ j. get_or pix j 0) (sym at)) (omega arith) (omega arith) (λ i. ne (sym at ∙ sym i)) (omega arith)
 
-      -- So does each other copy.
+      -- Each other copy goes before that copy too.
       pub least_last : All (λ s. IsTrue (s.item == m) ⊎ IsTrue (goes_before pix s r)) copies
       least_last = all_somes (λ s. IsTrue (s.item == m) ⊎ IsTrue (goes_before pix s r)) os (λ k s l e. by k s (omega (arith, long stores places)) e (cases_eq k m))
         where
@@ -192,22 +192,22 @@ module _ (pix : List ℕ) (places : List (Option ℕ)) (leaves : List Leaf) (sto
               get_or-set_other (set os item (Some x)) m k None None ni ∙ get_or-set_other os item k (Some x) None nj
               ∙ sym (get_or-set_other (set os m None) item k (Some x) None nj ∙ get_or-set_other os m k None None ni)
 
-      left_alone : (k : ℕ) → k < length (set places m None) → k ≢ item → get_or (set places m None) k None ≢ Some slot
+      left_alone : (k : ℕ) → k < length (set places m None) → k ≢ item → get_or (set places m None) k None ≢ Some copy_slot
       left_alone k l ne f = by (cases_eq k m)
         where
           by : (k ≡ m) ⊎ (k ≡ m → ⊥) → ⊥
-          by (inl i) = let g : None ≡ Some slot = sym (get_or-set_same places m None None lm) ∙ ap (λ j. get_or (set places m None) j None) (sym i) ∙ f in cc
-          by (inr ni) = ni (ap (λ (b : Leaf). b.item) (sym (a.leaf k slot (omega (arith, length-set places m None)) (sym (get_or-set_other places m k None None ni) ∙ f)) ∙ a.leaf m slot lm its))
+          by (inl i) = let g : None ≡ Some copy_slot = sym (get_or-set_same places m None None lm) ∙ ap (λ j. get_or (set places m None) j None) (sym i) ∙ f in cc
+          by (inr ni) = ni (ap (λ (b : Leaf). b.item) (sym (a.leaf k copy_slot (omega (arith, length-set places m None)) (sym (get_or-set_other places m k None None ni) ∙ f)) ∙ a.leaf m copy_slot lm its))
 
-      -- The newcomer takes the room of that copy, and all others stay.
-      pub evicted : keep (length leaves) pix (with_copy x copies) ≡ somes (copies_in_store (set stores slot st) (set (set places m None) item (Some slot)))
+      -- The newcomer takes the copy slot of that copy, and all others stay.
+      pub evicted : keep (length leaves) pix (with_copy x copies) ≡ somes (copies_in_store (set stores copy_slot st) (set (set places m None) item (Some copy_slot)))
       evicted =
-          let within = a.within m slot lm its in
+          let within = a.within m copy_slot lm its in
           ap (keep (length leaves) pix) joined
           ∙ least_out (length leaves) pix (set os item (Some x)) m r (omega (arith, length-set os item (Some x), long stores places)) (get_or-set_other os item m (Some x) None other_item ∙ held)
           (let p = one_more in let f = evicted_full in omega arith)
           (λ k s l e ne. by k s (omega (arith, length-set os item (Some x), long stores places)) e ne (cases_eq k item))
-          ∙ ap somes (swapped ∙ ap (λ o. set o item (Some x)) (sym (cleared_is stores places m lm)) ∙ sym (put_is stores (set places m None) item slot st (omega (arith, length-set places m None)) (omega arith) left_alone))
+          ∙ ap somes (swapped ∙ ap (λ o. set o item (Some x)) (sym (cleared_is stores places m lm)) ∙ sym (put_is stores (set places m None) item copy_slot st (omega (arith, length-set places m None)) (omega arith) left_alone))
         where
           by : (k : ℕ) (s : Read) → k < length places → get_or (set os item (Some x)) k None ≡ Some s → k ≢ m → (k ≡ item) ⊎ (k ≡ item → ⊥) → goes_before pix s r ≡ true
           by k s l e ne (inl i) =
@@ -215,50 +215,50 @@ module _ (pix : List ℕ) (places : List (Option ℕ)) (leaves : List Leaf) (sto
               let g : x ≡ s = cc in subst (λ (t : Read). goes_before pix t r ≡ true) g newcomer_before
           by k s l e ne (inr nj) = rest_before k s l (sym (get_or-set_other os item k (Some x) None nj) ∙ e) ne
 
-    -- The lightest room, which the newcomer takes.
-    module _ (r : Leaf) (lr : r.slot < length leaves) (at : get_or leaves r.slot nowhere ≡ r) (heavier : weight r ≤ weight (new_leaf pix item 0)) (light : All (λ b. weight r ≤ weight b) leaves) where
-      -- What is so once the newcomer has that room, by the places that were left.
+    -- The lightest copy slot, which the newcomer takes.
+    module _ (r : Leaf) (lr : r.copy_slot < length leaves) (at : get_or leaves r.copy_slot nowhere ≡ r) (heavier : weight r ≤ weight (new_leaf pix item 0)) (light : All (λ b. weight r ≤ weight b) leaves) where
+      -- What holds once the newcomer has that copy slot, from the places that were left.
       abbrev pub Outcome : List (Option ℕ) → KeepAnswer → Type 0
-      Outcome rest answer = Agree pix (set rest item (Some r.slot)) (set leaves r.slot (new_leaf pix item r.slot))
-          × (keep (length leaves) pix (with_copy x copies) ≡ somes (copies_in_store (set stores r.slot st) (set rest item (Some r.slot))))
+      Outcome rest answer = Agree pix (set rest item (Some r.copy_slot)) (set leaves r.copy_slot (new_leaf pix item r.copy_slot))
+          × (keep (length leaves) pix (with_copy x copies) ≡ somes (copies_in_store (set stores r.copy_slot st) (set rest item (Some r.copy_slot))))
           × IsKeepAnswer (length leaves) pix copies x answer
 
-      -- The room changes hands: rooms and items agree, the copies are those kept, and the answer is told.
+      -- The copy slot changes hands: copy slots and items agree, the copies are those that are kept, and the answer is given.
       pub outcome : Outcome (if r.kept then set places r.item None else places) (if r.kept then Evicted r.item else Placed)
       outcome = by r.kept refl
         where
-          weighs : weight (get_or leaves r.slot nowhere) ≡ weight r
+          weighs : weight (get_or leaves r.copy_slot nowhere) ≡ weight r
           weighs = ap weight at
 
           by : (b : Bool) → r.kept ≡ b → Outcome (if b then set places r.item None else places) (if b then Evicted r.item else Placed)
           by true e =
-              let kept : (get_or leaves r.slot nowhere).kept ≡ true = ap (λ (b : Leaf). b.kept) at ∙ e in
-              let lm : r.item < length places = subst (λ (b : Leaf). b.item < length places) at (a.item r.slot lr kept) in
-              let its : get_or places r.item None ≡ Some r.slot = subst (λ (b : Leaf). get_or places b.item None ≡ Some r.slot) at (a.place r.slot lr kept) in
-              let least : (s : ℕ) → s < length leaves → weight (get_or leaves r.slot nowhere) ≤ weight (get_or leaves s nowhere) = λ s l. (let w = light s nowhere l in let v = weighs in omega arith) in
-              let heavy : weight (get_or leaves r.slot nowhere) ≤ weight (new_leaf pix item r.slot) = (let v = weighs in omega arith) in
-              let full = evicted_full r.item r.slot r.slot lm its least heavy in (
-                handed_on pix places leaves r.item item r.slot a lm li lr its none,
-                evicted r.item r.slot r.slot lm its least heavy,
+              let kept : (get_or leaves r.copy_slot nowhere).kept ≡ true = ap (λ (b : Leaf). b.kept) at ∙ e in
+              let lm : r.item < length places = subst (λ (b : Leaf). b.item < length places) at (a.item r.copy_slot lr kept) in
+              let its : get_or places r.item None ≡ Some r.copy_slot = subst (λ (b : Leaf). get_or places b.item None ≡ Some r.copy_slot) at (a.place r.copy_slot lr kept) in
+              let least : (s : ℕ) → s < length leaves → weight (get_or leaves r.copy_slot nowhere) ≤ weight (get_or leaves s nowhere) = λ s l. (let w = light s nowhere l in let v = weighs in omega arith) in
+              let heavy : weight (get_or leaves r.copy_slot nowhere) ≤ weight (new_leaf pix item r.copy_slot) = (let v = weighs in omega arith) in
+              let full = evicted_full r.item r.copy_slot r.copy_slot lm its least heavy in (
+                handed_on pix places leaves r.item item r.copy_slot a lm li lr its none,
+                evicted r.item r.copy_slot r.copy_slot lm its least heavy,
                 (
                   (no_copy stores places item li none, omega arith),
-                  stored_read stores r.item r.slot,
-                  kept_copy stores places r.item r.slot lm its,
-                  newcomer_before r.item r.slot r.slot lm its least heavy,
-                  least_last r.item r.slot r.slot lm its least heavy,
+                  stored_read stores r.item r.copy_slot,
+                  kept_copy stores places r.item r.copy_slot lm its,
+                  newcomer_before r.item r.copy_slot r.copy_slot lm its least heavy,
+                  least_last r.item r.copy_slot r.copy_slot lm its least heavy,
                 ),
               )
           by false e =
-              let free : (get_or leaves r.slot nowhere).kept ≡ false = ap (λ (b : Leaf). b.kept) at ∙ e in (
-                agree_put pix places leaves item r.slot a li lr none free,
-                put_in r.slot lr free,
-                (no_copy stores places item li none, fewer r.slot lr free),
+              let free : (get_or leaves r.copy_slot nowhere).kept ≡ false = ap (λ (b : Leaf). b.kept) at ∙ e in (
+                agree_put pix places leaves item r.copy_slot a li lr none free,
+                put_in r.copy_slot lr free,
+                (no_copy stores places item li none, fewer r.copy_slot lr free),
               )
 
 -- The clause of an offer, from what the fields say.
-pub kept_form : (pix : List ℕ) (rooms k n : ℕ) (kept new : List Read) (y : Read) (self : Cache) → ◌≡◌ {A = Cache} (record { room = rooms; pix = pix; copies = kept }) self → k ≡ rooms → n ≡ rooms →
+pub kept_form : (pix : List ℕ) (copy_slots k n : ℕ) (kept new : List Read) (y : Read) (self : Cache) → ◌≡◌ {A = Cache} (record { room = copy_slots; pix = pix; copies = kept }) self → k ≡ copy_slots → n ≡ copy_slots →
     keep k pix (with_copy y kept) ≡ new → ◌≡◌ {A = Cache} (record { room = n; pix = pix; copies = new }) (record { room = self.room; pix = self.pix; copies = keep self.room self.pix (with_copy y self.copies) })
-kept_form pix rooms k n kept new y self view ek en h =
+kept_form pix copy_slots k n kept new y self view ek en h =
     ap {B = Cache} (λ (m : ℕ). record { room = m; pix = pix; copies = new }) en
-    ∙ ap {B = Cache} (λ (c : List Read). record { room = rooms; pix = pix; copies = c }) (sym h ∙ ap (λ m. keep m pix (with_copy y kept)) ek)
+    ∙ ap {B = Cache} (λ (c : List Read). record { room = copy_slots; pix = pix; copies = c }) (sym h ∙ ap (λ m. keep m pix (with_copy y kept)) ek)
     ∙ ap {B = Cache} (λ (s : Cache). record { room = s.room; pix = s.pix; copies = keep s.room s.pix (with_copy y s.copies) }) view

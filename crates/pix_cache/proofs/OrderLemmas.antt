@@ -1,4 +1,4 @@
--- Leaves and the order of copies: how many rooms are taken, whose copy goes before whose, and which one is too many.
+-- Leaves and the order of copies: how many copy slots are taken, whose copy goes before whose, and which one is too many.
 use Rattle.std.proofs.Common.{◌≡◌, ◌≢◌, ℕ, zero, suc, ◌+◌, ◌-◌, ◌*◌, ◌<◌, ◌≤◌, Bool, true, false, cond, if◌then◌else◌, List, [], ◌∷◌, length, get_or, take, drop, All, Option, Some, None, IsTrue, refl, sym, ◌∙◌, ap, subst, arith, ◌⊎◌, inl, inr, length-append, length-set}
 use Rattle.std.specs.List.{count_by}
 use Rattle.std.proofs.Math.ListN.{set}
@@ -16,12 +16,12 @@ use Rattle.pix_cache.proofs.SomeLemmas.{all_somes, left, taken}
 use Rattle.pix_cache.proofs.NodeLemmas.{copy_weight}
 
 -- ---- counts
--- Each counts for one at most.
+-- Each element counts for at most one.
 one_or_none : (b : Bool) → cond b 1 0 ≤ 1
 one_or_none true = omega arith
 one_or_none false = omega arith
 
--- Where an element fails, fewer pass than there are.
+-- If an element fails, fewer pass than there are.
 pub some_fails : {X : Type 0} (p : X → Bool) (xs : List X) (k : ℕ) (d : X) → k < length xs → p (get_or xs k d) ≡ false → count_by p xs < length xs
 some_fails p [] k d l e = absurd (omega arith)
 some_fails p (x ∷ xs) zero d l e =
@@ -35,7 +35,7 @@ some_fails p (x ∷ xs) (suc k) d l e =
     let sum = sum_by-cons (λ z. cond (p z) 1 0) x xs in
     omega arith
 
--- Where all pass, that many pass.
+-- If all pass, the count is the length.
 pub all_pass : {X : Type 0} (p : X → Bool) (xs : List X) → All (λ x. p x ≡ true) xs → count_by p xs ≡ length xs
 all_pass p [] h = refl
 all_pass p (x ∷ xs) h =
@@ -45,7 +45,7 @@ all_pass p (x ∷ xs) h =
     omega arith
 
 -- ---- weights
--- What weighs something is a copy.
+-- A leaf with a weight above 0 is a copy's.
 pub heavy_kept : (a : Leaf) → 0 < weight a → a.kept ≡ true
 heavy_kept a l = by a.kept l
   where
@@ -66,7 +66,7 @@ goes pix r s a b ka kb ia ib pa pb ls lr ne le = goes_to pix r s (by (cases_orde
     by (inl same) (inr i) = let wa = copy_weight a ka in let wb = copy_weight b kb in absurd (let less : s.item < r.item = omega (arith, ne) in omega arith)
 
 -- ---- one copy too many
--- Where there is one copy too many, that one goes before which all others go.
+-- If there is one copy too many, the one that comes last in the order is dropped.
 pub least_out : (room : ℕ) (pix : List ℕ) (os : List (Option Read)) (m : ℕ) (r : Read) → m < length os → get_or os m None ≡ Some r → length (somes os) ≡ room + 1 →
     ((k : ℕ) (s : Read) → k < length os → get_or os k None ≡ Some s → k ≢ m → goes_before pix s r ≡ true) → keep room pix (somes os) ≡ somes (set os m None)
 least_out room pix os m r l e size others =

@@ -1,4 +1,4 @@
--- Copies by rising item: the list of those that there are, against the list with one place for each item.
+-- Copies by rising item: the list of the copies that exist, compared with the list that has one place for each item.
 use Rattle.std.proofs.Common.{◌≡◌, ℕ, suc, ◌+◌, ◌<◌, ◌≤◌, Bool, true, false, not, cond, ◌==◌, nat_lt, List, [], ◌∷◌, ◌++◌, length, get_or, take, drop, All, Option, Some, None, refl, sym, ◌∙◌, ap, subst, arith, ◌⊎◌, inl, inr, append-nil}
 use Rattle.std.specs.List.{count_by, filter, find}
 use Rattle.std.specs.Option.{is_some, option_or}
@@ -14,7 +14,7 @@ use Rattle.air_model.proofs.CopyOrders.{filter_all}
 use Rattle.pix_cache.specs.Caches.{copy_among}
 use Rattle.pix_cache.specs.CacheFields.{somes}
 
--- Each copy stands at its item's place, counted from a first one.
+-- Each copy is at its item's place, counted from a first one.
 abbrev pub Placed : ℕ → List (Option Read) → Type 0
 Placed a os = (k : ℕ) (r : Read) → get_or os k None ≡ Some r → r.item ≡ a + k
 
@@ -24,7 +24,7 @@ somes-append [] ys = refl
 somes-append (None ∷ xs) ys = somes-append xs ys
 somes-append (Some r ∷ xs) ys = ap (λ l. r ∷ l) (somes-append xs ys)
 
--- Copies that stand at their items' places are of items of that range.
+-- Copies that are at their items' places are of items of that range.
 items_in : (a : ℕ) (os : List (Option Read)) → Placed a os → All (λ r. (a ≤ r.item) × (r.item < a + length os)) (somes os)
 items_in a [] h = λ k d l. absurd (omega arith)
 items_in a (None ∷ os) h =
@@ -73,7 +73,7 @@ module _ (f b : List (Option Read)) (o : Option Read) (h : Placed 0 (f ++ o ∷ 
   rights : All (λ r. length f < r.item) (somes b)
   rights = All-weaker (λ r. (length f + 1 ≤ r.item) × (r.item < length f + 1 + length b)) (λ r. length f < r.item) (λ r p. let low = p.0 in omega arith) (somes b) (items_in (length f + 1) b (placed_right f b o h))
 
-  -- The one in the middle, by a test that it fails or passes as its item says.
+  -- The copy in the middle fails or passes a test as its item says.
   mid_fails : (p : Read → Bool) → ((r : Read) → r.item ≡ length f → p r ≡ false) → All (λ r. p r ≡ false) (one o)
   unfolding one
   mid_fails p fails = by o (placed_mid f b o h)
@@ -139,7 +139,7 @@ module _ (os : List (Option Read)) (i : ℕ) (within : i < length os) where
   size : length (take i os) ≡ i
   size = length-take-le i os (omega arith)
 
-  -- A copy put at its item's place is one put in place of that item's.
+  -- A copy put at its item's place is put in place of that item's copy.
   pub with_is : (x : Read) → x.item ≡ i → Placed 0 os → with_copy x (somes os) ≡ somes (set os i (Some x))
   unfolding with_copy
   with_is x at h =
@@ -154,7 +154,7 @@ module _ (os : List (Option Read)) (i : ℕ) (within : i < length os) where
       ∙ ap (λ l. somes f ++ x ∷ l) (above f b o hp)
       ∙ sym (ap somes (set_split os i (Some x) within) ∙ somes-append f (Some x ∷ b))
 
-  -- The copies without an item's are those with its place empty.
+  -- The copies without an item's copy are those with its place empty.
   pub without_is : Placed 0 os → without_item i (somes os) ≡ somes (set os i None)
   unfolding without_item
   without_is h =
@@ -166,7 +166,7 @@ module _ (os : List (Option Read)) (i : ℕ) (within : i < length os) where
       ∙ others f b o (subst (Placed 0) parts h)
       ∙ sym (ap somes (set_split os i None within) ∙ somes-append f (None ∷ b))
 
-  -- An item's copy is what stands at its place.
+  -- An item's copy is what is at its place.
   pub copy_is : Placed 0 os → copy_among i (somes os) ≡ get_or os i None
   unfolding copy_among
   copy_is h =
@@ -185,13 +185,13 @@ module _ (os : List (Option Read)) (i : ℕ) (within : i < length os) where
   pub left : somes (set os i None) ≡ somes (take i os) ++ somes (drop (suc i) os)
   left = ap somes (set_split os i None within) ∙ somes-append (take i os) (None ∷ drop (suc i) os)
 
--- How many there are.
+-- The number of copies.
 pub count_somes : (os : List (Option Read)) → length (somes os) ≡ count_by is_some os
 count_somes [] = refl
 count_somes (None ∷ os) = count_somes os
 count_somes (Some r ∷ os) = let e = count_somes os in let s = sum_by-cons (λ o. cond (is_some o) 1 0) (Some r) os in omega arith
 
--- What holds of each copy by its place, holds of all.
+-- What holds of each copy by its place holds of all.
 pub all_somes : (P : Read → Type 0) (os : List (Option Read)) → ((k : ℕ) (r : Read) → k < length os → get_or os k None ≡ Some r → P r) → All P (somes os)
 all_somes P [] h = λ k d l. absurd (omega arith)
 all_somes P (None ∷ os) h = all_somes P os (λ k r l e. h (suc k) r (omega arith) e)

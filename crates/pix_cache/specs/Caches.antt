@@ -31,11 +31,12 @@ FindsRoom room copies x = (copy_among x.item copies ≡ None) × (length copies 
 abbrev pub FindsNone : ℕ → List Read → Read → Type 0
 FindsNone room copies x = (copy_among x.item copies ≡ None) × (room ≤ length copies)
 
--- There is one too many with the newcomer, which is the least of all: each kept copy goes before it.
+-- There is one copy too many with the newcomer, and the newcomer is the least of all: each kept copy goes before it.
 abbrev pub IsLeastCopy : ℕ → List ℕ → List Read → Read → Type 0
 IsLeastCopy room pix copies x = FindsNone room copies x × All (λ r. IsTrue (goes_before pix r x)) copies
 
--- There is one too many with the newcomer, and the item's copy is the least of all: the newcomer and each other copy go before it.
+-- There is one copy too many with the newcomer, and this item's copy is the least of all: the newcomer and each other copy go
+-- before it.
 abbrev pub GivesWay : ℕ → List ℕ → List Read → Read → ℕ → Type 0
 GivesWay room pix copies x item = FindsNone room copies x × (least : Read) × (copy_among item copies ≡ Some least)
     × IsTrue (goes_before pix x least) × All (λ r. IsTrue (r.item == item) ⊎ IsTrue (goes_before pix r least)) copies

@@ -1,6 +1,7 @@
 //! The cache: contracts see its room, the PIX numbers and the kept copies by rising item.
 //!
-//! `places` has the room of each item that is kept, `store` what each room holds, `tree` the room to take next.
+//! `places` has the copy slot of each item that has a copy, `store` what each copy slot holds, and `tree` the copy slot to take
+//! next.
 
 ghost use Rattle.std.specs.Prelude.{◌≡◌, ◌≢◌, ◌↔◌, ◌<◌, ◌≤◌, ◌++◌, ℕ, true, [], List, length, sum_by, None, if◌then◌else◌, IfOk, MatchOption, IsPermutation, slice_set};
 ghost use Rattle.air_base.specs.declared.limits.TheConstants.{ITEM_NUMBERS, MOST_ROOM};
@@ -17,7 +18,7 @@ use air_base::NoMemory;
 use std::alloc::Global;
 use std::marker::Model;
 
-/// What became of a newcomer.
+/// What was done with a newcomer.
 #[derive(Clone, Copy, Debug, PartialEq, Eq, Drop)]
 pub enum KeepAnswer {
     /// It took the place of its item's copy.
@@ -30,7 +31,7 @@ pub enum KeepAnswer {
     Evicted(u16),
 }
 
-/// At most so many copies, each of an item of its own.
+/// At most this many copies, each of an item of its own.
 #[derive(Drop)]
 pub struct PixCache {
     pix: Vec<u64>,
@@ -51,7 +52,7 @@ impl Model for PixCache {
     ghost invariant = { KeepsCopies };
 }
 
-/// Takes its room from the copy that the leaf is of, if it is of one.
+/// Takes the copy slot from the copy of the leaf, if the leaf has one.
 fn leave(places: &mut [Option<u16>], leaf: &Leaf)
     requires { leaf.now.kept ≡ true → leaf.now.item < length places.old }
     ensures { places.new ≡ (if leaf.now.kept then slice_set places.old leaf.now.item None else places.old) }
@@ -61,7 +62,7 @@ fn leave(places: &mut [Option<u16>], leaf: &Leaf)
     }
 }
 
-/// The answer to a newcomer that takes this room.
+/// The answer to a newcomer that takes this copy slot.
 fn answer(leaf: &Leaf) -> KeepAnswer
     ensures { result ≡ (if leaf.now.kept then Evicted leaf.now.item else Placed) }
 {
@@ -73,38 +74,38 @@ fn answer(leaf: &Leaf) -> KeepAnswer
 }
 
 impl PixCache {
-    /// No copies yet, and room for so many, over as many items as there are PIX numbers. It takes all memory.
+    /// No copies yet, with this much room, for as many items as there are PIX numbers. All memory is taken here.
     pub fn new(alloc: Global, room: u32, pix: &[u64]) -> Result<PixCache, NoMemory>
         requires room { room ≤ MOST_ROOM }
         requires items { length pix.now ≤ ITEM_NUMBERS }
         ensures { IfOk result (λ c. c ≡ record { room = room; pix = pix.now; copies = [] }) }
     {
-        let rooms = room as usize;
+        let copy_slots = room as usize;
         Ok(PixCache {
             pix: pix.to_vec(alloc)?,
             places: vec![in alloc; None; pix.len()]?,
-            store: Store::new(alloc, rooms, pix.len())?,
-            tree: Tree::new(alloc, rooms)?,
+            store: Store::new(alloc, copy_slots, pix.len())?,
+            tree: Tree::new(alloc, copy_slots)?,
         })
     }
 
-    /// The kept copy of an item. It takes constant time.
+    /// The kept copy of an item, in constant time.
     pub fn get(&self, item: u16) -> Option<Kept<'_>>
         requires { item < length self.now.pix }
         ensures { MatchOption result (copy_among item self.now.copies ≡ None)
             (λ k. copy_among item self.now.copies ≡ Some (copy item k.cycle k.value k.column.now)) }
     {
-        let slot = self.places[item as usize]?;
-        Some(self.store.get(slot))
+        let copy_slot = self.places[item as usize]?;
+        Some(self.store.get(copy_slot))
     }
 
-    /// Keeps the newcomer, if it is not the least of all: in place of its item's copy, in a free room, or in that of the
-    /// least copy. It takes time for the column, and for each doubling of the room.
+    /// Keeps the newcomer, if it isn't the least of all: in place of its item's copy, in a free copy slot, or in that of the
+    /// least copy. The time grows with the length of the column and with the logarithm of the number of copy slots.
     pub fn keep(&mut self, item: u16, cycle: u32, value: u64, column: &[u32]) -> KeepAnswer
         requires item { item < length self.old.pix }
         requires column { length column.now ≡ length self.old.pix }
 
-        // The copies are the greatest by PIX number of those before and the newcomer, as many as there is room for.
+        // The copies are those of the old ones and the newcomer with the greatest PIX numbers, as many as there is room for.
         ensures kept { let x = copy item cycle value column.now in
             self.new ≡ record self.old { copies = keep self.old.room self.old.pix (with_copy x self.old.copies) } }
 
@@ -113,11 +114,11 @@ impl PixCache {
             IsPermutation (chosen ++ rest) (with_copy x self.old.copies) → length chosen ≤ length self.new.copies →
             sum_by (pix_of self.old.pix) chosen ≤ sum_by (pix_of self.old.pix) self.new.copies }
 
-        // The copies of other items stay, but for the one that gives way.
+        // The copies of other items stay, except the one that gives way.
         ensures others { (other : ℕ) → other < length self.old.pix → other ≢ item → result ≢ Evicted other →
             copy_among other self.new.copies ≡ copy_among other self.old.copies }
 
-        // Each answer comes exactly where it says.
+        // Each answer is given if and only if its condition holds.
         ensures replaced { let x = copy item cycle value column.now in (result ≡ Replaced) ↔ HasCopy self.old.copies x }
         ensures placed { let x = copy item cycle value column.now in (result ≡ Placed) ↔ FindsRoom self.old.room self.old.copies x }
         ensures declined { let x = copy item cycle value column.now in
@@ -128,7 +129,7 @@ impl PixCache {
         self.offer(item, cycle, value, column)
     }
 
-    /// `keep`, with its answer by case.
+    /// Does what `keep` does, and gives the answer by case.
     fn offer(&mut self, item: u16, cycle: u32, value: u64, column: &[u32]) -> KeepAnswer
         requires item { item < length self.old.pix }
         requires column { length column.now ≡ length self.old.pix }
@@ -139,8 +140,8 @@ impl PixCache {
         ensures answer { let x = copy item cycle value column.now in
             IsKeepAnswer self.old.room self.old.pix self.old.copies x result }
     {
-        if let Some(slot) = self.places[item as usize] {
-            self.store.put(slot, cycle, value, column);
+        if let Some(copy_slot) = self.places[item as usize] {
+            self.store.put(copy_slot, cycle, value, column);
             return KeepAnswer::Replaced;
         }
         let pix = self.pix[item as usize];
@@ -148,11 +149,11 @@ impl PixCache {
             return KeepAnswer::Declined;
         };
         leave(&mut self.places, &least);
-        let slot = least.slot;
-        self.places[item as usize] = Some(slot);
-        self.store.put(slot, cycle, value, column);
+        let copy_slot = least.copy_slot;
+        self.places[item as usize] = Some(copy_slot);
+        self.store.put(copy_slot, cycle, value, column);
         self.tree.put(Leaf {
-            slot,
+            copy_slot,
             kept: true,
             pix,
             item,
@@ -165,13 +166,13 @@ impl PixCache {
         requires { item < length self.old.pix }
         ensures { self.new ≡ record self.old { copies = without_item item self.old.copies } }
     {
-        if let Some(slot) = self.places[item as usize] {
+        if let Some(copy_slot) = self.places[item as usize] {
             self.places[item as usize] = None;
-            self.tree.put(Leaf::empty(slot));
+            self.tree.put(Leaf::empty(copy_slot));
         }
     }
 
-    /// Takes other PIX numbers; the copies stay.
+    /// Replaces the PIX numbers; the copies stay.
     pub fn reorder(&mut self, pix: &[u64])
         requires { length pix.now ≡ length self.old.pix }
         ensures { self.new ≡ record self.old { pix = pix.now } }

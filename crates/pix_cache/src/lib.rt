@@ -1,8 +1,8 @@
-//! The copies that a receiver keeps: at most so many, those of the greatest PIX numbers.
+//! The copies that a receiver keeps: those with the greatest PIX numbers, as many as it has room for.
 //!
-//! Contracts see a cache as its room, the PIX numbers and the copies by rising item. `PixCache::keep` takes a newcomer in
-//! place of its item's copy, or of the least one; a tree over the rooms has the least at its root. No copy is moved, and
-//! no call but `new` takes memory.
+//! Contracts see a cache as its room, the PIX numbers and the copies by rising item. `PixCache::keep` puts a newcomer in place
+//! of its item's copy, or of the least one; a tree over the copy slots has the least at its root. No copy is moved, and only
+//! `new` takes memory.
 #![tactic(auto)]
 
 pub mod cache;

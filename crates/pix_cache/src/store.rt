@@ -1,6 +1,6 @@
-//! The rooms for copies: what each holds, and the columns of all in one list.
+//! The copy slots: what each holds, and the columns of all in one list.
 //!
-//! A column stays where it was put until another is put over it.
+//! A column stays where it was put until another is put in its place.
 
 ghost use Rattle.std.specs.Prelude.{◌≡◌, ◌<◌, ◌≤◌, length, get_or, IfOk, slice_set};
 ghost use Rattle.air_base.specs.declared.limits.TheConstants.{ITEM_NUMBERS, MOST_ROOM};
@@ -18,18 +18,18 @@ pub struct Kept<'a> {
     pub column: &'a [u32],
 }
 
-/// What a room holds beside a column.
+/// What a copy slot holds apart from a column.
 #[derive(Clone, Copy, Drop)]
-struct Slot {
+struct CopySlot {
     cycle: u32,
     value: u64,
 }
 
-/// So many rooms, each for a copy with `n` entries.
+/// This many copy slots, each for a copy with `n` entries.
 #[derive(Drop)]
 pub struct Store {
     n: usize,
-    slots: Vec<Slot>,
+    copy_slots: Vec<CopySlot>,
     entries: Vec<u32>,
 }
 
@@ -46,28 +46,28 @@ impl Model for Store {
 }
 
 impl Store {
-    /// So many rooms for copies with `n` entries. It takes all memory.
-    pub fn new(alloc: Global, rooms: usize, n: usize) -> Result<Store, NoMemory>
-        requires few { rooms ≤ MOST_ROOM }
+    /// This many copy slots, each for a copy with `n` entries. All memory is taken here.
+    pub fn new(alloc: Global, copy_slots: usize, n: usize) -> Result<Store, NoMemory>
+        requires few { copy_slots ≤ MOST_ROOM }
         requires items { n ≤ ITEM_NUMBERS }
         ensures width { IfOk result (λ s. s.width ≡ n) }
-        ensures rooms { IfOk result (λ s. length s.stores ≡ rooms) }
+        ensures copy_slots { IfOk result (λ s. length s.stores ≡ copy_slots) }
     {
-        let blank = Slot { cycle: 0, value: 0 };
+        let blank = CopySlot { cycle: 0, value: 0 };
         Ok(Store {
             n,
-            slots: vec![in alloc; blank; rooms]?,
-            entries: vec![in alloc; 0; rooms * n]?,
+            copy_slots: vec![in alloc; blank; copy_slots]?,
+            entries: vec![in alloc; 0; copy_slots * n]?,
         })
     }
 
-    /// The copy in a room.
-    pub fn get(&self, slot: u16) -> Kept<'_>
-        requires { slot < length self.now.stores }
-        ensures { get_or self.now.stores slot no_store ≡ stored_copy result.cycle result.value result.column.now }
+    /// The copy in a copy slot.
+    pub fn get(&self, copy_slot: u16) -> Kept<'_>
+        requires { copy_slot < length self.now.stores }
+        ensures { get_or self.now.stores copy_slot no_store ≡ stored_copy result.cycle result.value result.column.now }
     {
-        let from = slot as usize * self.n;
-        let held = self.slots[slot as usize];
+        let from = copy_slot as usize * self.n;
+        let held = self.copy_slots[copy_slot as usize];
         Kept {
             cycle: held.cycle,
             value: held.value,
@@ -75,14 +75,14 @@ impl Store {
         }
     }
 
-    /// Puts a copy in place of what a room held.
-    pub fn put(&mut self, slot: u16, cycle: u32, value: u64, column: &[u32])
-        requires within { slot < length self.old.stores }
+    /// Puts a copy in place of what a copy slot held.
+    pub fn put(&mut self, copy_slot: u16, cycle: u32, value: u64, column: &[u32])
+        requires within { copy_slot < length self.old.stores }
         requires sized { length column.now ≡ self.old.width }
-        ensures { self.new ≡ record self.old { stores = slice_set self.old.stores slot (stored_copy cycle value column.now) } }
+        ensures { self.new ≡ record self.old { stores = slice_set self.old.stores copy_slot (stored_copy cycle value column.now) } }
     {
-        let from = slot as usize * self.n;
-        self.slots[slot as usize] = Slot { cycle, value };
+        let from = copy_slot as usize * self.n;
+        self.copy_slots[copy_slot as usize] = CopySlot { cycle, value };
         self.entries[from..from + self.n].copy_from_slice(column);
     }
 }

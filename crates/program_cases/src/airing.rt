@@ -1,7 +1,7 @@
 //! Cases of a sender: the cycle of a board on a mast, and the calls of the mast that gathers a tape.
 //!
-//! `air` and `memory` have the letter of a policy, and how many bytes the buffer has behind the longest bucket; what these bytes are then is
-//! told too. `memory` airs on a new mast, and has its room and the call that fails.
+//! `air` and `memory` take the letter of a policy, and the number of bytes that the buffer has after the longest bucket; the transcript also has what
+//! these bytes are then. `memory` airs on a new mast, and takes its room and the call that fails.
 
 ghost use Rattle.std.specs.Prelude.{◌≡◌, ◌≤◌, length};
 ghost use Rattle.air_sender.specs.BoardBuckets.{EntriesBelow};
@@ -16,8 +16,7 @@ use chunk_program::Planned;
 use control_matrix::Board;
 use std::alloc::Global;
 
-/// Airs the board's cycle on the mast, from a buffer with this many bytes behind the longest bucket. Tells the answer, and what these
-/// bytes are then.
+/// Airs the board's cycle on the mast, from a buffer with this many bytes after the longest bucket. Adds the answer, and what these bytes are then.
 fn air<M: Mast>(
     alloc: Global,
     planned: &Planned,
@@ -47,7 +46,7 @@ fn air<M: Mast>(
     Ok(())
 }
 
-/// Answers a question about what is aired: how many bytes a number of cycles has, or the board's cycle on a mast.
+/// Answers a question about what is aired: the number of bytes of a number of cycles, or the board's cycle on a mast.
 pub fn tell_aired(
     alloc: Global,
     planned: &Planned,
@@ -78,7 +77,7 @@ pub fn tell_aired(
     add_records(memory.sent(), came)
 }
 
-/// Calls the mast that gathers a tape, and tells the answer.
+/// Calls the mast that gathers a tape, and adds the answer.
 pub fn tell_call(
     alloc: Global,
     mast: &mut TapeMast,

@@ -1,6 +1,6 @@
-//! The board of a deck's script and of one start more, so that a cycle can be aired from it.
+//! The board of a deck's script and one more start, so that a cycle can be aired from it.
 //!
-//! Each commit of the script is taken to be of updater 0, with its next update. There is no board where an event doesn't fit.
+//! Each commit of the script is taken to be of updater 0, with its next update. There is no board if an event doesn't fit.
 
 ghost use Rattle.std.specs.Prelude.{◌≡◌, ◌<◌, ◌≤◌, ℕ, List, ◌++◌, ◌∷◌, [], length, IfOk, IfSome, IsTrue};
 ghost use Rattle.air_history.specs.declared.histories.Event.{Event};
@@ -24,7 +24,7 @@ fn values_of(alloc: Global, deck: &Deck) -> Result<Vec<u64>, NoMemory> {
     Ok(values)
 }
 
-/// The event of a part of the script: a start, or the commit of the update of this number of updater 0.
+/// The event of a part of the script: a start, or the commit of the update of updater 0 with this number.
 fn event(alloc: Global, deck: &Deck, part: u32, number: usize) -> Result<Option<Event>, NoMemory>
     requires { part < length deck.now.script }
 {
@@ -44,7 +44,7 @@ fn event(alloc: Global, deck: &Deck, part: u32, number: usize) -> Result<Option<
     }
 }
 
-/// Applies the event, if it may be; whether it was.
+/// Applies the event if it is allowed, and returns whether it was.
 fn apply(board: &mut Board, event: &Event) -> bool
     ensures { IsTrue result → (values : List ℕ) (G : List Event) → board.old ≡ board_of values G → board.new ≡ board_of values (G ++ event.now ∷ []) }
 {
@@ -55,7 +55,7 @@ fn apply(board: &mut Board, event: &Event) -> bool
     true
 }
 
-/// The board of the script and a start; none where an event doesn't fit.
+/// The board of the script and a start, or `None` if an event doesn't fit.
 pub fn started_board(alloc: Global, deck: &Deck) -> Result<Option<Board>, NoMemory>
     ensures below { IfOk result (λ b. IfSome b EntriesBelow) }
     ensures started { IfOk result (λ b. IfSome b (λ b. 1 ≤ b.cycle)) }

@@ -1,9 +1,9 @@
 //! Plays cases of decks' cuts and programs, of the cycles that are aired from a deck's board, and of the mast that gathers a tape.
 //!
-//! `items` and `disks` spell the text of a deck, `repeat` goes on with the items, and each question after them reads it again: `slots`, `plan`,
-//! `cut` and `wait` ask for the program of the edition that `edition` names, `in-force` for the edition of a cycle, `length`, `air` and
-//! `memory` for what is aired. The board is that of the deck's script and of one start more. `mast` makes the mast of a room, which `air`,
-//! `aim`, `send`, `finish`, `tape` and `clear` are about.
+//! `items` and `disks` spell the text of a deck, `repeat` continues the items, and each question after them reads it again. `slots`, `plan`, `cut`
+//! and `wait` ask for the program of the edition that `edition` names, `in-force` for the edition of a cycle, `length`, `air` and `memory` for what
+//! is aired. The board is that of the deck's script and one more start. `mast` makes the mast of a room, which `air`, `aim`, `send`, `finish`, `tape`
+//! and `clear` are about.
 #![tactic(auto)]
 
 mod airing;

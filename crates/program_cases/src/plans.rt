@@ -1,7 +1,7 @@
 //! Cases of cuts and programs: where each item is, and what the slots of a cycle carry.
 //!
-//! `plan` and `cut` tell all that the program and the cut of an edition say; `wait` has a slot and an item, and asks how far off the item
-//! is; `in-force` has a cycle, and asks for its edition.
+//! `plan` and `cut` add all that the program and the cut of an edition say. `wait` takes a slot and an item, and asks how far off the item is.
+//! `in-force` takes a cycle, and asks for its edition.
 
 ghost use Rattle.std.specs.Prelude.{◌≡◌, ◌≤◌, ◌<◌, length};
 ghost use Rattle.air_model.specs.Decks.{count_editions, disks_in, specs_in};
@@ -80,7 +80,7 @@ fn add_slots(program: &Program, out: &mut Vec<u8>) -> Result<(), NoMemory> {
     Ok(())
 }
 
-/// The rate of an item; 0 where there is no such item.
+/// The rate of an item; 0 if there is no such item.
 fn rate_of(deck: &Deck, item: u16) -> u32
     ensures { result ≤ 1000000 }
 {
@@ -91,7 +91,7 @@ fn rate_of(deck: &Deck, item: u16) -> u32
     }
 }
 
-/// Adds for each item its disk, how often and how far apart it comes, its first slot, and its PIX number at its rate.
+/// Adds for each item its disk, the number of its slots and the gap between them, its first slot, and its PIX number at its rate.
 fn add_items(deck: &Deck, program: &Program, cut: &Cut, out: &mut Vec<u8>) -> Result<(), NoMemory>
     requires cut { cut.now ≡ program.now.disks }
     requires items { length (all_items program.now.disks) ≡ length deck.now.items }
@@ -100,7 +100,7 @@ fn add_items(deck: &Deck, program: &Program, cut: &Cut, out: &mut Vec<u8>) -> Re
     for item in 0..deck.items() {
         let numbers = [
             u64::from(item),
-            u64::from(cut.disk_of(item)),
+            u64::from(program.disk_of(item)),
             u64::from(program.times(item)),
             u64::from(program.gap(item)),
             u64::from(program.next_wake(0, item)),
@@ -128,7 +128,7 @@ fn tell_plan(planned: &Planned, edition: u32, cut: &Cut, came: &mut Vec<u8>) -> 
     add_items(planned.deck(), program, cut, came)
 }
 
-/// The order of the items, and of each its disk and its place there.
+/// The order of the items, and for each its disk and its place there.
 fn tell_cut(cut: &Cut, came: &mut Vec<u8>) -> Result<(), NoMemory> {
     for item in cut.order() {
         add_line(b"next", &[u64::from(*item)], came)?;
@@ -136,7 +136,7 @@ fn tell_cut(cut: &Cut, came: &mut Vec<u8>) -> Result<(), NoMemory> {
     add_homes(cut, came)
 }
 
-/// Of each item its disk and its place there.
+/// Adds for each item its disk and its place there.
 fn add_homes(cut: &Cut, came: &mut Vec<u8>) -> Result<(), NoMemory> {
     for item in 0..cut.order().len().min(MOST_ITEMS) as u16 {
         let numbers = [

@@ -1,11 +1,11 @@
-//! A tape told with a line for each record, as hexadecimal digits, four bytes to a word.
+//! A tape written with a line for each record, as hexadecimal digits, four bytes to a word.
 //!
 //! The first word is the record's length.
 
 use air_base::NoMemory;
 use case_lines::add_hex_words;
 
-/// Adds a line for each record: its length in four bytes, and that many bytes. What is left where none begins is a line too.
+/// Adds a line for each record: its length in four bytes, and that number of bytes. What is left when no record begins there is a line too.
 pub fn add_records(tape: &[u8], out: &mut Vec<u8>) -> Result<(), NoMemory> {
     let mut rest = tape;
     for _ in 0..tape.len() {

@@ -1,4 +1,4 @@
--- What contracts see of held reads that are checked by a policy: the policy, the reads, and the least cycle of a further one.
+-- Held reads that are checked by a policy, as contracts see them: the policy, the reads, and the least cycle of a further one.
 use Rattle.std.specs.Prelude.{ℕ, map}
 use Rattle.air_base.specs.declared.verdicts.Policy.{Policy}
 use Rattle.air_base.specs.declared.verdicts.Policy.TheVariants.{FMatrix, Datacycle, RMatrix}
@@ -14,7 +14,7 @@ policy_of (by_policy.FMatrix held) = FMatrix
 policy_of (by_policy.Datacycle held) = Datacycle
 policy_of (by_policy.RMatrix held) = RMatrix
 
--- The held reads, whatever the policy.
+-- The held reads, regardless of the policy.
 abbrev pub held_of : PolicyHeld → HeldReads
 held_of (by_policy.FMatrix held) = held
 held_of (by_policy.Datacycle held) = held

@@ -1,6 +1,6 @@
-//! Held reads beside the items that they have: a read that may not be tried or held is told to be so, and not passed on.
+//! Held reads with their items: a read that may not be tried or held is answered as that, and not passed on.
 //!
-//! `hold` and `try` tell what came of a read: `not new`, `late`, the clash, `held`, or `goes with all` where it is not to be held.
+//! `hold` and `try` add the result of a read: `not new`, `late`, the clash, `held`, or `goes with all` if it is not to be held.
 
 ghost use Rattle.std.specs.Prelude.{◌↔◌, ◌≢◌, ◌<◌, All, IsTrue};
 ghost use Rattle.air_history.specs.HeldReads.{IsNew};
@@ -68,7 +68,7 @@ impl Attempt {
             && all_below(entries, cycle)
     }
 
-    /// Tries the read and, where it clashes with none and is to be held, holds it; adds what came of it.
+    /// Tries the read, holds it if it clashes with none and is to be held, and adds the result.
     pub fn read(
         &mut self,
         item: u16,
@@ -100,7 +100,7 @@ impl Attempt {
         self.held.show(came)
     }
 
-    /// Holds nothing any more.
+    /// Drops all held reads.
     pub fn clear(&mut self) {
         self.items.clear();
         self.held.clear();

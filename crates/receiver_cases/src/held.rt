@@ -1,6 +1,6 @@
-//! The held reads of the three policies as one type, with a case a policy.
+//! The held reads of the three policies as one type, with a case for each policy.
 //!
-//! A contract asks what the case's own type does, and tells what `attempts` needs.
+//! The contracts require what the type of each case requires, and say what `attempts` needs.
 
 ghost use Rattle.std.specs.Prelude.{◌≡◌, ◌<◌, ◌≤◌, [], ◌∷◌, ◌++◌, length, IfOk, None};
 ghost use Rattle.air_history.specs.Clashes.{clash_by_entries};
@@ -14,8 +14,7 @@ use held_reads::{CheckedReads, NOT_HELD, PolicyCheck, ROOM};
 use std::alloc::Global;
 use vector_policies::{DataHeld, RHeld};
 
-/// Adds a line: how many reads are held, the cycle of the last, if there is one, and the held cycle of each item, where `-` is
-/// no cycle.
+/// Adds a line: the number of held reads, the cycle of the last, if there is one, and the held cycle of each item, with `-` for no cycle.
 fn add_held<C: PolicyCheck>(held: &CheckedReads<C>, came: &mut Vec<u8>) -> Result<(), NoMemory> {
     came.extend_from_slice(b"holds ")?;
     write_u64(held.len() as u64, came)?;
@@ -68,7 +67,7 @@ impl PolicyHeld {
         }
     }
 
-    /// Adds how many reads are held, the cycle of the last, and the held cycle of each item.
+    /// Adds the number of held reads, the cycle of the last, and the held cycle of each item.
     pub fn show(&self, came: &mut Vec<u8>) -> Result<(), NoMemory> {
         match self {
             PolicyHeld::FMatrix(held) => add_held(held, came),
@@ -88,7 +87,7 @@ impl PolicyHeld {
         }
     }
 
-    /// The held read of least item number that clashes with the new one.
+    /// The held read with the least item number among those that clash with the new one.
     pub fn clashes(&self, item: u16, cycle: u32, entries: &[u32]) -> Option<Clash>
         requires new { IsNew (held_of self.now) (heard_read item cycle entries.now) }
         requires order { least_cycle self.now ≤ cycle }
@@ -101,7 +100,7 @@ impl PolicyHeld {
         }
     }
 
-    /// Holds the new read too, after those before it.
+    /// Also holds the new read, after those before it.
     pub fn hold(&mut self, item: u16, cycle: u32, entries: &[u32])
         requires room { length (held_of self.old).reads < ROOM }
         requires new { IsNew (held_of self.old) (heard_read item cycle entries.now) }
@@ -117,7 +116,7 @@ impl PolicyHeld {
         }
     }
 
-    /// Holds nothing any more.
+    /// Drops all held reads.
     pub fn clear(&mut self)
         ensures items { (held_of self.new).n ≡ (held_of self.old).n }
         ensures reads { (held_of self.new).reads ≡ [] }

@@ -1,8 +1,8 @@
 //! The words of the cases.
 //!
-//! `policy` begins an attempt with nothing held, by the letter of a policy and over a number of items; `hold` and `try` have an item, a
-//! cycle and the entries that are heard with it; `seeds` plays attempts of drawn reads. `deck` sets the text of a deck, and `receiver`
-//! makes its receiver of a number, which the other words are about.
+//! `policy` begins an attempt with nothing held, by the letter of a policy and over a number of items. `hold` and `try` take an item, a cycle and the
+//! entries that are heard with it. `seeds` plays attempts of drawn reads. `deck` sets the text of a deck, and `receiver` makes its receiver of a
+//! number, which the other words are about.
 
 use crate::attempts::Attempt;
 use crate::receivers::{call, new_receiver};
@@ -12,7 +12,7 @@ use case_lines::{BadCase, Parts, Player};
 use receiver_core::Receiver;
 use std::alloc::Global;
 
-/// The attempt at hand, the text of a deck, and the receiver at hand.
+/// The current attempt, the text of a deck, and the current receiver.
 #[derive(Drop)]
 pub struct Cases {
     pub attempt: Option<Attempt>,

@@ -1,7 +1,7 @@
 //! Receivers of a deck's text, and their calls.
 //!
-//! `hear` has the bytes of a bucket in hexadecimal digits; the other calls have no parts. What a step comes to is told in a line, and an
-//! abort or an aged attempt in two.
+//! `hear` takes the bytes of a bucket in hexadecimal digits; the other calls have no parts. The result of a step is one line; that of an abort or an
+//! aged attempt is two.
 
 use air_base::limits::MOST_DECK_BYTES;
 use air_base::{NoMemory, Verdict, VerdictKind};
@@ -66,7 +66,7 @@ fn add_verdict(verdict: &Verdict, came: &mut Vec<u8>) -> Result<(), NoMemory> {
     }
 }
 
-/// Adds what a step came to.
+/// Adds the result of a step.
 fn add_step(step: &Step, came: &mut Vec<u8>) -> Result<(), NoMemory> {
     match step {
         Step::Verdict(verdict) => add_verdict(verdict, came),
@@ -75,7 +75,7 @@ fn add_step(step: &Step, came: &mut Vec<u8>) -> Result<(), NoMemory> {
     }
 }
 
-/// Hears the bytes and makes a step, where the receiver is settled and has counted little.
+/// Hears the bytes and makes a step, if the receiver is settled and its counts are small.
 fn hear(
     alloc: Global,
     receiver: &mut Receiver,

@@ -1,7 +1,7 @@
 //! Attempts of drawn reads.
 //!
-//! An attempt tries twenty reads, and holds those that clash with none while there is room. The first `seed` modulo 17 reads are
-//! quiet: their entries are below 3, so that they go together. Those of the others are below their cycle.
+//! An attempt tries twenty reads, and holds those that clash with none while there is room. The first `seed` modulo 17 reads are quiet: their entries
+//! are below 3, so that they go together. The entries of the others are below their cycle.
 
 use crate::attempts::Attempt;
 use air_base::{NoMemory, Policy};
@@ -19,8 +19,8 @@ fn drawn(alloc: Global, n: u16, limit: u32, dice: u32) -> Result<Vec<u32>, NoMem
     Ok(row)
 }
 
-/// The cycle of a read of a number: from 3 to 9, but under R-Matrix it rises with the number, so that the quiet reads are never
-/// late, and of the others most aren't.
+/// The cycle of a read of a number: from 3 to 9. Under R-Matrix it increases with the number, so that the quiet reads are never late, and most of the
+/// others aren't.
 fn cycle_of(policy: Policy, number: u32, is_quiet: bool, dice: u32) -> u32 {
     match policy {
         Policy::RMatrix if is_quiet => (number / 2).wrapping_add(3),
@@ -29,7 +29,7 @@ fn cycle_of(policy: Policy, number: u32, is_quiet: bool, dice: u32) -> u32 {
     }
 }
 
-/// Plays the attempt of a seed, and adds what came of each read, what is held then, and what after all was cleared.
+/// Plays the attempt of a seed, and adds the result of each read, what is held then, and what is held after all was dropped.
 fn play_seed(
     alloc: Global,
     attempt: &mut Attempt,
@@ -54,8 +54,8 @@ fn play_seed(
     attempt.show(came)
 }
 
-/// Plays the attempts of a range of seeds: the case has the policy, the number of items, the first seed, and the one after the
-/// last. Adds their lines, where these are few, or how many bytes they have, and the sum of these.
+/// Plays the attempts of a range of seeds: the case has the policy, the number of items, the first seed, and the one after the last. Adds their lines
+/// if these are few, or else their number of bytes and their sum.
 pub fn play_seeds(
     alloc: Global,
     parts: &mut Parts<'_>,

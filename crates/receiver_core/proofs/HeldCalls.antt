@@ -5,7 +5,7 @@ use Rattle.air_model.specs.Aired.{Air}
 use Rattle.air_model.specs.Buckets.{Bucket}
 use Rattle.air_model.specs.Judges.{by_entries}
 use Rattle.air_model.specs.SessionLaws.{QueriesFilled, dozed_through}
-use Rattle.air_model.specs.Sessions.{Line, Reader, State, end_query, hear, query_of, wanted}
+use Rattle.air_model.specs.Sessions.{Reader, SessionLine, State, end_query, hear, query_of, wanted}
 use Rattle.air_model.proofs.MomentLemmas.{cond_keeps}
 use Rattle.receiver_core.specs.HeldTruths.{HearsTruly, HoldsTruly, StaysTrue}
 use Rattle.receiver_core.specs.ReceiverSteps.{step}
@@ -17,7 +17,7 @@ moved : (before now : Receiver) (H : List Event) → now.air ≡ before.air → 
 moved before now H air reader h = subst (λ a. HoldsTruly a H now.reader now.state) (sym air) (subst (λ r. HoldsTruly before.air H r now.state) (sym reader) h)
 
 -- Lines that wait are no part of what is held.
-lined : (air : Air) (H : List Event) (reader : Reader) (s : State) (L : List Line) → HoldsTruly air H reader (record s { lines = L }) → HoldsTruly air H reader s
+lined : (air : Air) (H : List Event) (reader : Reader) (s : State) (L : List SessionLine) → HoldsTruly air H reader (record s { lines = L }) → HoldsTruly air H reader s
 unfolding wanted query_of
 lined air H reader s L h = record { held = h.held; copies = h.copies; allowed = h.allowed; accepted = h.accepted; at_hand = h.at_hand }
 
@@ -33,13 +33,13 @@ stepped_truly : (before : Receiver) (H : List Event) → QueriesFilled before.re
 stepped_truly before H filled truly = cond_keeps (HoldsTruly before.air H before.reader) (nat_lt 0 (length before.state.lines)) before.state (step (by_entries before.air.scheme) before.air before.reader before.state) (λ _. truly)
     (λ _. steps_truly before.air H before.reader filled before.state truly)
 
-pub steps : (before now : Receiver) (L : List Line) → (let t : State = record now.state { lines = L } in t) ≡ state_after_step before → now.air ≡ before.air → now.reader ≡ before.reader → StaysTrue before now
+pub steps : (before now : Receiver) (L : List SessionLine) → (let t : State = record now.state { lines = L } in t) ≡ state_after_step before → now.air ≡ before.air → now.reader ≡ before.reader → StaysTrue before now
 steps before now L state air reader = record {
   keeps = λ H filled truly.
       moved before now H air reader (lined before.air H before.reader now.state L (subst (HoldsTruly before.air H before.reader) (sym state) (stepped_truly before H filled truly)));
 }
 
-pub ends : (before now : Receiver) (L : List Line) → (let t : State = record now.state { lines = L } in t) ≡ end_query (by_entries before.air.scheme) before.air before.reader before.state → now.air ≡ before.air → now.reader ≡ before.reader
+pub ends : (before now : Receiver) (L : List SessionLine) → (let t : State = record now.state { lines = L } in t) ≡ end_query (by_entries before.air.scheme) before.air before.reader before.state → now.air ≡ before.air → now.reader ≡ before.reader
     → StaysTrue before now
 ends before now L state air reader = record {
   keeps = λ H filled truly.

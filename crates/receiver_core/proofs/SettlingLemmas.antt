@@ -6,12 +6,12 @@ use Rattle.std.specs.Fn.{iterate}
 use Rattle.std.proofs.lemmas.Bool.{cond-false, cond-true, lt-ltb, ltb-false, ltb-true}
 use Rattle.air_model.specs.Aired.{Air}
 use Rattle.air_model.specs.Judges.{Judge}
-use Rattle.air_model.specs.Sessions.{Line, Reader, State, copy_of, settle, turn, turn_with, wanted}
+use Rattle.air_model.specs.Sessions.{Reader, SessionLine, State, copy_of, settle, turn, turn_with, wanted}
 use Rattle.receiver_core.specs.ReceiverSteps.{step, turn_to_line}
 use Rattle.air_model.proofs.MomentLemmas.{cond_keeps}
 use Rattle.air_model.proofs.SettleLemmas.{settle_is}
 
-none_left : (L : List Line) → nat_lt 0 (length L) ≡ false → L ≡ []
+none_left : (L : List SessionLine) → nat_lt 0 (length L) ≡ false → L ≡ []
 none_left [] e = refl
 none_left (l ∷ L) e = absurd (let f = ltb-false 0 (length (l ∷ L)) e in omega arith)
 

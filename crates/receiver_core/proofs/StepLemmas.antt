@@ -11,7 +11,7 @@ use Rattle.air_base.specs.declared.verdicts.VerdictKind.TheVariants.{Accept, Unf
 use Rattle.air_model.specs.Judges.{Judge, by_entries}
 use Rattle.air_model.specs.Aired.{Air}
 use Rattle.air_model.specs.Reads.{Read}
-use Rattle.air_model.specs.Sessions.{Line, Reader, State, accept_if_whole, copy_of, count_copied, drop_copy, end_query, hold, is_unusable, line_of, next_query, settle, turn, turn_with, wanted, with_line}
+use Rattle.air_model.specs.Sessions.{Reader, SessionLine, State, accept_if_whole, copy_of, count_copied, drop_copy, end_query, hold, is_unusable, line_of, next_query, settle, turn, turn_with, wanted, with_line}
 use Rattle.receiver_core.specs.ReceiverSteps.{step, turn_to_line}
 use Rattle.air_model.proofs.MomentLemmas.{cond_keeps}
 use Rattle.pix_cache.specs.Caches.{Cache}
@@ -192,7 +192,7 @@ pub ended_left : (old now : Receiver) → now ≡ in_state (without_copies old) 
 ended_left old now e here =
     ap (λ (r : Receiver). r.state) e ∙ end_left (by_entries old.air.scheme) old.air old.reader old.state here
 
-no_line_pushed : (L : List Line) (l : Line) → [] ≡ L ++ l ∷ [] → ⊥
+no_line_pushed : (L : List SessionLine) (l : SessionLine) → [] ≡ L ++ l ∷ [] → ⊥
 no_line_pushed [] l e = cc
 no_line_pushed (k ∷ L) l e = cc
 

@@ -12,7 +12,7 @@ use Rattle.air_model.specs.Judges.{Judge, by_entries, place_of}
 use Rattle.air_model.specs.Reads.{Read}
 use Rattle.air_model.specs.SessionLaws.{are_far}
 use Rattle.air_model.specs.Sessions
-use Rattle.air_model.specs.Sessions.{Line, Reader, State, accept_if_whole, comes_late, count_copied, drop_copy, hold, is_unusable, line_of, next_query, query_of, turn, turn_with, wanted, with_line}
+use Rattle.air_model.specs.Sessions.{Reader, SessionLine, State, accept_if_whole, comes_late, count_copied, drop_copy, hold, is_unusable, line_of, next_query, query_of, turn, turn_with, wanted, with_line}
 use Rattle.air_model.proofs.MomentLemmas.{cond_keeps, find_is}
 use Rattle.air_model.proofs.SoundLemmas.{part_of_query}
 use Rattle.pix_cache.specs.Caches.{Cache, copy_among}
@@ -123,7 +123,7 @@ turn_ends air reader s e = by (Sessions.copy_of (wanted reader s) s) refl e
     by (Some x) kept f = cond_keeps (λ t. Sessions.copy_of (wanted reader t) t ≡ None) (is_unusable (J air) air reader x s) _ _ (λ _. dropped_gone reader s x kept)
         (λ usable. absurd (let g : true ≡ false = sym (ap not usable) ∙ f in cc))
 
-line_pushed : (L : List Line) (l : Line) → L ++ l ∷ [] ≡ [] → ⊥
+line_pushed : (L : List SessionLine) (l : SessionLine) → L ++ l ∷ [] ≡ [] → ⊥
 line_pushed [] l e = cc
 line_pushed (k ∷ L) l e = cc
 

@@ -1,5 +1,5 @@
-//! Cases of audits of reports: `audit` tells what is found of each line, with its row, `letters` tells a letter for each, and `sums` how
-//! many agree.
+//! Cases of audits of reports: `audit` adds the finding of each line, with its row, `letters` adds a letter for each, and `sums` the number of lines
+//! that agree.
 
 ghost use Rattle.air_report.specs.KeptReports.{KeepsGrammar};
 
@@ -10,7 +10,7 @@ use item_catalog::Deck;
 use live_replay::{AuditError, Cause, Finding, audit};
 use std::alloc::Global;
 
-/// What is found of a line in a word: that it agrees, or the cause for which it differs.
+/// The finding of a line in a word: that it agrees, or the cause for which it differs.
 fn word_of(finding: &Finding) -> &'static [u8] {
     match finding.differs {
         None => b"agrees",
@@ -21,7 +21,7 @@ fn word_of(finding: &Finding) -> &'static [u8] {
     }
 }
 
-/// Tells of each finding its word and the row of its line.
+/// Adds for each finding its word and the row of its line.
 fn add_findings(found: &[Finding], came: &mut Vec<u8>) -> Result<(), NoMemory> {
     for finding in found {
         add_line(word_of(finding), &[u64::from(finding.row)], came)?;
@@ -29,8 +29,7 @@ fn add_findings(found: &[Finding], came: &mut Vec<u8>) -> Result<(), NoMemory> {
     Ok(())
 }
 
-/// Tells a letter for each finding: a dash where the line agrees, `V` for a value, `v` for a verdict, `c` for a clash and `t` for a
-/// total.
+/// Adds a letter for each finding: a dash if the line agrees, `V` for a value, `v` for a verdict, `c` for a clash and `t` for a total.
 fn add_letters(found: &[Finding], came: &mut Vec<u8>) -> Result<(), NoMemory> {
     for finding in found {
         came.push(match finding.differs {
@@ -44,7 +43,7 @@ fn add_letters(found: &[Finding], came: &mut Vec<u8>) -> Result<(), NoMemory> {
     Ok(())
 }
 
-/// Tells how many findings there are, and how many lines agree.
+/// Adds the number of findings, and the number of lines that agree.
 fn add_sums(found: &[Finding], came: &mut Vec<u8>) -> Result<(), NoMemory> {
     let mut agree = 0_u64;
     for finding in found {
@@ -56,7 +55,7 @@ fn add_sums(found: &[Finding], came: &mut Vec<u8>) -> Result<(), NoMemory> {
     add_line(b"agree", &[agree], came)
 }
 
-/// Audits a report, and tells of it what the word asks for.
+/// Audits a report, and adds what the word asks for.
 pub fn add_audit(
     alloc: Global,
     deck: &Deck,

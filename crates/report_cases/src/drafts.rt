@@ -1,7 +1,7 @@
 //! A report that is put together line by line, from numbers of any deck or of none, and then written.
 //!
-//! A case puts a line: its tag, and its numbers in the order of the report. `read` lines go before the verdict that has the reads, and a
-//! `commit` puts 1 into item 0.
+//! A case puts a line: its tag, and its numbers in the order of the report. `read` lines come before the verdict that has the reads, and a `commit`
+//! puts 1 into item 0.
 
 use crate::texts::tell;
 use air_base::{Counts, NoMemory, ReadOf, Reads, Verdict, VerdictKind};
@@ -50,7 +50,7 @@ fn read_of(parts: &mut Parts<'_>) -> ReadOf {
     }
 }
 
-/// How an attempt ended that is of this tag: an abort has an item, a cycle and a clash, an aged attempt an item and a cycle.
+/// How an attempt of this tag ended: an abort has an item, a cycle and a clash, an aged attempt an item and a cycle.
 fn kind_of(tag: &[u8], parts: &mut Parts<'_>) -> VerdictKind {
     match tag {
         b"accept" => VerdictKind::Accept,
@@ -91,7 +91,7 @@ fn look_of(parts: &mut Parts<'_>) -> LookLine {
     }
 }
 
-/// The history of fewer than a thousand events.
+/// The history of these events, of which there are fewer than a thousand.
 #[tactic(auto, using(air_history::proofs::ScanLemmas::starts_within))]
 fn history_of(events: Vec<Event>) -> Option<History> {
     if events.len() >= 1000 {
@@ -101,7 +101,7 @@ fn history_of(events: Vec<Event>) -> Option<History> {
 }
 
 impl CaseReport {
-    /// No line.
+    /// No lines.
     pub fn new(alloc: Global) -> CaseReport {
         CaseReport {
             events: Vec::new(alloc),
@@ -151,7 +151,7 @@ impl CaseReport {
         Ok(())
     }
 
-    /// Writes the report of the lines after a text, and tells the text then; after it there is no line.
+    /// Writes the report of the lines after a text, and adds the text; after that there are no lines.
     pub fn write(
         &mut self,
         alloc: Global,

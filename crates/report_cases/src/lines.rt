@@ -1,13 +1,13 @@
-//! Tells the lines of a report: each by its tag and its numbers, in the order in which a report has them.
+//! Adds the lines of a report: each by its tag and its numbers, in the order in which a report has them.
 //!
-//! A verdict is told in lines: the attempt, how it ended, and each read.
+//! A verdict has several lines: the attempt, how it ended, and each read.
 
 use air_base::{NoMemory, ReadOf, VerdictKind};
 use air_model::reports::{CountsLine, LookLine, VerdictLine};
 use air_report::EventLine;
 use case_lines::add_line;
 
-/// Tells the lines of a history.
+/// Adds the lines of a history.
 pub fn add_events(lines: &[EventLine], came: &mut Vec<u8>) -> Result<(), NoMemory> {
     for line in lines {
         match line {
@@ -20,7 +20,7 @@ pub fn add_events(lines: &[EventLine], came: &mut Vec<u8>) -> Result<(), NoMemor
     Ok(())
 }
 
-/// Tells how an attempt ended.
+/// Adds how an attempt ended.
 fn add_kind(kind: VerdictKind, came: &mut Vec<u8>) -> Result<(), NoMemory> {
     match kind {
         VerdictKind::Accept => add_line(b"accept", &[], came),
@@ -35,7 +35,7 @@ fn add_kind(kind: VerdictKind, came: &mut Vec<u8>) -> Result<(), NoMemory> {
     }
 }
 
-/// Tells the item, the cycle and the value of each read.
+/// Adds the item, the cycle and the value of each read.
 fn add_reads(reads: &[ReadOf], came: &mut Vec<u8>) -> Result<(), NoMemory> {
     for read in reads {
         let numbers = [u64::from(read.item), u64::from(read.cycle), read.value];
@@ -44,7 +44,7 @@ fn add_reads(reads: &[ReadOf], came: &mut Vec<u8>) -> Result<(), NoMemory> {
     Ok(())
 }
 
-/// Tells the lines of verdicts: the reader, the query and the attempt, how it ended, and its reads.
+/// Adds the lines of verdicts: the reader, the query and the attempt, how it ended, and its reads.
 pub fn add_verdicts(lines: &[VerdictLine], came: &mut Vec<u8>) -> Result<(), NoMemory> {
     for line in lines {
         let verdict = line.verdict;
@@ -60,7 +60,7 @@ pub fn add_verdicts(lines: &[VerdictLine], came: &mut Vec<u8>) -> Result<(), NoM
     Ok(())
 }
 
-/// Tells the lines of counts: the reader, and what it opened, dozed, heard late, refused, found foreign and copied.
+/// Adds the lines of counts: the reader, and what it opened, dozed, heard late, refused, found foreign and copied.
 pub fn add_counts(lines: &[CountsLine], came: &mut Vec<u8>) -> Result<(), NoMemory> {
     for line in lines {
         let counts = line.counts;
@@ -78,7 +78,7 @@ pub fn add_counts(lines: &[CountsLine], came: &mut Vec<u8>) -> Result<(), NoMemo
     Ok(())
 }
 
-/// Tells lines of monitors: the monitor, the cycle and the total.
+/// Adds lines of monitors: the monitor, the cycle and the total.
 pub fn add_looks(word: &[u8], lines: &[LookLine], came: &mut Vec<u8>) -> Result<(), NoMemory> {
     for line in lines {
         let numbers = [u64::from(line.monitor), u64::from(line.cycle), line.total];

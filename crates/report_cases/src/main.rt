@@ -1,8 +1,8 @@
 //! Plays cases of reports: read against a deck, written, and audited.
 //!
-//! `front` begins each text after it, and `repeat` goes on with it. `deck` reads that text with another at its end as a deck, and
-//! `report`, `lines`, `rows` and the audits as a report of this deck; `line` puts another text in the place of the line of a number.
-//! `put` adds a line to a report, a tag and its numbers, and `write` writes these lines after a text.
+//! `front` begins each text after it, and `repeat` continues it. `deck` reads that text with another at its end as a deck; `report`, `lines`, `rows`
+//! and the audits read it as a report of this deck. `line` replaces the line of a number with another text. `put` adds a line to a report, a tag and
+//! its numbers, and `write` writes these lines after a text.
 #![tactic(auto)]
 
 mod audits;
@@ -20,7 +20,7 @@ use item_catalog::{Deck, DeckError, read_deck};
 use std::alloc::Global;
 use std::io;
 
-/// How a text begins, the deck that was read last, and the lines that are put into a report.
+/// The beginning of a text, the deck that was read last, and the lines that are put into a report.
 #[derive(Drop)]
 struct ReportPlayer {
     front: Vec<u8>,

@@ -1,7 +1,7 @@
 //! Cases of reports read from texts: their lines and rows, or the fault of the text.
 //!
-//! `report` tells only that the text is a report, `lines` its lines section by section, `rows` the rows of its lines and the text that is
-//! written of it. The audits of a report stand in `audits`.
+//! `report` adds only that the text is a report, `lines` its lines section by section, `rows` the rows of its lines and the text that is written of
+//! it. The audits of a report are in `audits`.
 
 ghost use Rattle.std.specs.Prelude.{◌≤◌, length};
 ghost use Rattle.air_report.specs.declared.reading.limits.TheConstants.{MOST_REPORT_BYTES};
@@ -16,7 +16,7 @@ use case_lines::{add_entries, add_line};
 use item_catalog::Deck;
 use std::alloc::Global;
 
-/// Tells the fault of a text that is no report.
+/// Adds the fault of a text that is no report.
 fn add_fault(error: ReportError, came: &mut Vec<u8>) -> Result<(), NoMemory> {
     match error {
         ReportError::Fault { row, kind } => {
@@ -26,7 +26,7 @@ fn add_fault(error: ReportError, came: &mut Vec<u8>) -> Result<(), NoMemory> {
     }
 }
 
-/// Tells the lines of a text, section by section.
+/// Adds the lines of a text, section by section.
 fn add_lines(alloc: Global, deck: &Deck, text: &[u8], came: &mut Vec<u8>) -> Result<(), NoMemory>
     requires { length text.now ≤ MOST_REPORT_BYTES }
 {
@@ -42,7 +42,7 @@ fn add_lines(alloc: Global, deck: &Deck, text: &[u8], came: &mut Vec<u8>) -> Res
     }
 }
 
-/// Tells the rows of a report's lines, and the text that is written of it.
+/// Adds the rows of a report's lines, and the text that is written of it.
 fn add_rows(alloc: Global, read: &ReadReport, came: &mut Vec<u8>) -> Result<(), NoMemory> {
     add_entries(b"verdicts", read.verdict_rows.as_slice(), came)?;
     add_entries(b"glances", read.glance_rows.as_slice(), came)?;
@@ -52,7 +52,7 @@ fn add_rows(alloc: Global, read: &ReadReport, came: &mut Vec<u8>) -> Result<(), 
     tell(&text, came)
 }
 
-/// Reads the text as a report of the deck, and tells of it what the word asks for.
+/// Reads the text as a report of the deck, and adds what the word asks for.
 pub fn ask(
     alloc: Global,
     deck: &Deck,

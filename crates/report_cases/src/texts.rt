@@ -1,11 +1,11 @@
-//! A text with another line in the place of one, and a text told in one line.
+//! A text in which one line is replaced, and a text written in one line.
 //!
-//! Lines are counted from 1, each ended by a line feed.
+//! Lines are counted from 1; each ends with a line feed.
 
 use air_base::NoMemory;
 use std::alloc::Global;
 
-/// The lines of the text, with another in the place of one.
+/// The lines of the text, one of them replaced by another.
 pub fn with_line(alloc: Global, text: &[u8], line: u64, other: &[u8]) -> Result<Vec<u8>, NoMemory> {
     let mut out = Vec::new(alloc);
     let mut at = 1_u64;
@@ -23,7 +23,7 @@ pub fn with_line(alloc: Global, text: &[u8], line: u64, other: &[u8]) -> Result<
     Ok(out)
 }
 
-/// Tells the text in one line, with a bar for each line feed.
+/// Adds the text in one line, with a bar for each line feed.
 pub fn tell(text: &[u8], came: &mut Vec<u8>) -> Result<(), NoMemory> {
     for byte in text {
         came.push(if *byte == b'\n' { b'|' } else { *byte })?;

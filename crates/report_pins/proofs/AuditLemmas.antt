@@ -127,7 +127,7 @@ refused_by_its_fault d bytes result is given =
     → (result ≡ Err status.NoMemory) ⊎ (result ≡ Err (status.Report 1 3)) in
     subst (λ v. P v bytes) (sym is) (subst (λ t. P small_deck t) (sym given) (refused result))
 
--- ---- one replay more than may be
+-- ---- one replay more than allowed
 
 same_product : (d : Deck) (bytes : List ℕ) (a b : ReadReport) → IsReportOf d bytes a → IsReportOf d bytes b → replayed_in a.report ≡ replayed_in b.report
 same_product d bytes a b first second = ap (λ (r : ReadReport). replayed_in r.report) (one_report d bytes a b first second)

@@ -30,7 +30,7 @@ use Rattle.report_pins.proofs.ReplayLemmas.{kept_given}
 
 -- ---- in the grammar
 
--- So many starts, each of which comes next.
+-- n starts, each of which comes next.
 all_next : (deck : Deck) (n : ℕ) (done : List EventLine) → EachNext deck done (replicate n Start)
 all_next deck zero done = tt
 all_next deck (suc n) done = (refl, all_next deck n (done ++ Start ∷ []))

@@ -1,4 +1,4 @@
--- The faults of short texts as reports of the small deck, computed, and that a reader of reports answers no other.
+-- The faults of short texts as reports of the small deck, computed, and that a reader of reports answers no other fault.
 use Rattle.std.proofs.Common.{◌≡◌, ◌∙◌, ℕ, List, Result, Ok, Err, IfOk, IfErr, ap, arith, inl, inr, refl, subst, sym}
 use Rattle.std.specs.Prelude.{codes}
 use Rattle.csv.proofs.OnLiterals.{csv_on_literals}

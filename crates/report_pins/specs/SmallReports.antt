@@ -56,7 +56,7 @@ late_report = report_in_rows
     (6 ∷ 7 ∷ [])
     []
 
--- Over 256 starts and no commit: an aged attempt whose next read lies 255 cycles from its first, and one whose next read lies 254 from it.
+-- Over 256 starts and no commit: an aged attempt whose next read is 255 cycles from its first, and one whose next read is 254 from it.
 abbrev pub far_report : ReadReport
 far_report = record {
   report = record {
@@ -71,6 +71,6 @@ far_report = record {
   look_rows = [];
 }
 
--- What is found of the line in a row.
+-- The finding of the line in a row.
 abbrev pub found : ℕ → Option Cause → Finding
 found row differs = record { row = row; differs = differs }

@@ -1,5 +1,5 @@
-//! These pins fix what `live_replay` makes of findings and of reports' texts: the text of two findings, and the audit of two looks.
-//! They also fix how it refuses a text with a fault, and a report that is too much to replay.
+//! These pins fix what `live_replay` makes of findings and of reports' texts: the text of two findings, and the audit of two looks. They also fix how
+//! it refuses a text with a fault, and a report that is too much to replay.
 
 ghost use Rattle.std.specs.Prelude.{◌≡◌, ◌⊎◌, ◌≤◌, ◌++◌, [], ◌∷◌, Err, Some, None, codes, length, true, IfOk};
 ghost use Rattle.air_report.specs.ReadReports.{IsReportOf};
@@ -15,7 +15,7 @@ use item_catalog::Deck;
 use live_replay::{AuditText, Cause, Finding, audit_report, findings_text};
 use std::alloc::Global;
 
-/// A finding tells its own row and its own cause, and the last row counts the findings before those that differ. It also refuses that these two
+/// A finding has its own row and its own cause, and the last row has the number of the findings before it that differ. It also refuses that these two
 /// are exchanged, and that rows are counted from 0.
 #[tactic(auto, using(crate::proofs::AuditLemmas::text_of_findings))]
 pub fn clash_told_as_verdict(alloc: Global, findings: &[Finding]) -> Result<Vec<u8>, NoMemory>
@@ -25,7 +25,7 @@ pub fn clash_told_as_verdict(alloc: Global, findings: &[Finding]) -> Result<Vec<
     findings_text(alloc, findings)
 }
 
-/// Where one line of two differs the audit says so, with the text of both. It also refuses that the findings are left out.
+/// If one line of two differs, the audit says so, with the text of both. It also refuses that the findings are left out.
 pub fn differs_only_where_all_do(
     alloc: Global,
     deck: &Deck,
@@ -39,7 +39,7 @@ pub fn differs_only_where_all_do(
     audit_report(alloc, deck, bytes)
 }
 
-/// An unknown tag is of the kind 3.
+/// An unknown tag is of kind 3.
 pub fn kind_of_a_fault_forgotten(
     alloc: Global,
     deck: &Deck,
@@ -52,7 +52,7 @@ pub fn kind_of_a_fault_forgotten(
     audit_report(alloc, deck, bytes)
 }
 
-/// A report of which one replay more than the limit is needed is refused, and with that number.
+/// A report that needs one replay more than the limit is refused, with that number.
 pub fn too_much_without_its_product(
     alloc: Global,
     deck: &Deck,

@@ -1,5 +1,5 @@
-//! These pins fix what `read_lines` of `air_report` answers for short texts that spell no report of the small deck.
-//! Each is refused with the first record that has a fault, and with the least kind there, or because memory ran out.
+//! These pins fix what `read_lines` of `air_report` answers for short texts that spell no report of the small deck. Each is refused with the first
+//! record that has a fault, and with the least kind there, or out of memory.
 
 ghost use Rattle.std.specs.Prelude.{◌≡◌, codes};
 ghost use Rattle.report_pins.specs.ReportAnswers.{IsReportFaultOrNoMemory};
@@ -22,7 +22,7 @@ pub fn accept_of_a_proper_prefix(
     read_lines(alloc, deck, bytes)
 }
 
-/// `aged` is an unknown tag where buckets have no ages.
+/// `aged` is an unknown tag if buckets have no ages.
 pub fn aged_where_buckets_have_no_ages(
     alloc: Global,
     deck: &Deck,
@@ -35,7 +35,7 @@ pub fn aged_where_buckets_have_no_ages(
     read_lines(alloc, deck, bytes)
 }
 
-/// Where they have ages it is a tag, so one alone lacks its fields.
+/// If they have ages, it is a tag, so one alone lacks its fields.
 pub fn aged_unknown_where_buckets_have_ages(
     alloc: Global,
     deck: &Deck,
@@ -100,7 +100,7 @@ pub fn cycle_among_all_starts_of_the_report(
     read_lines(alloc, deck, bytes)
 }
 
-/// Of a line that comes late and has no cycle the least kind is told.
+/// If a line comes late and has no cycle, the least kind is answered.
 pub fn greatest_kind_of_a_report(
     alloc: Global,
     deck: &Deck,
@@ -113,7 +113,7 @@ pub fn greatest_kind_of_a_report(
     read_lines(alloc, deck, bytes)
 }
 
-/// Of two faulty records the first is told. It also refuses that the record after it is told.
+/// Of two faulty records the first is answered. It also refuses that the record after it is answered.
 pub fn later_fault_for_the_first(
     alloc: Global,
     deck: &Deck,

@@ -1,5 +1,5 @@
-//! These pins fix what `air_report` reads of short texts of the small deck, where it reads a report.
-//! They fix the rows of its lines, and the updates of its commits.
+//! These pins fix what `air_report` reads of short texts of the small deck that spell a report. They fix the rows of its lines, and the updates of
+//! its commits.
 
 ghost use Rattle.std.specs.Prelude.{◌≡◌, [], ◌∷◌, IfOk};
 ghost use Rattle.air_history.specs.declared.histories.Event.TheVariants.{Commit};

@@ -1,5 +1,5 @@
-//! These pins fix what `live_replay` finds of the lines of small reports, each by its row.
-//! They also fix how much it replays, and that it refuses one replay more with the number.
+//! These pins fix what `live_replay` finds of the lines of small reports, each by its row. They also fix how much it replays, and that it refuses one
+//! replay more, with the number.
 
 ghost use Rattle.std.specs.Prelude.{◌≡◌, ◌⊎◌, [], ◌∷◌, Err, Some, None, IfErr, IfOk};
 ghost use Rattle.air_report.specs.KeptReports.{KeepsGrammar};
@@ -13,10 +13,10 @@ use live_replay::{AuditError, Cause, Finding, audit};
 use std::alloc::Global;
 
 /// Reads of two commits agree. It also refuses:
-/// in row 7, that an item that isn't written is 0, and that a write counts in its own cycle;
-/// in row 8, that values alone are replayed, since its abort is of a read that passes;
-/// in row 9, that the verdict is told before the value;
-/// in row 10, that a look is judged a cycle early.
+/// In row 7, that an item that isn't written is 0, and that a write counts in its own cycle.
+/// In row 8, that values alone are replayed, since its abort is of a read that passes.
+/// In row 9, that the verdict is answered before the value.
+/// In row 10, that a look is judged a cycle early.
 #[tactic(auto, using(crate::proofs::ReplayLemmas::read_findings))]
 pub fn descents_of_one_read_alone(
     alloc: Global,
@@ -30,8 +30,8 @@ pub fn descents_of_one_read_alone(
     audit(alloc, deck, report)
 }
 
-/// Under R-Matrix a read that comes late differs, though nothing writes its item. It also refuses, in row 7, that an abort names the greatest
-/// of the items with which its read clashes.
+/// Under R-Matrix a read that comes late differs, though nothing writes its item. It also refuses, in row 7, that an abort names the greatest of the
+/// items with which its read clashes.
 #[tactic(auto, using(crate::proofs::ReplayLemmas::late_findings))]
 pub fn late_read_passes(
     alloc: Global,
@@ -45,7 +45,7 @@ pub fn late_read_passes(
     audit(alloc, deck, report)
 }
 
-/// The reads of an aged attempt lie 255 cycles apart with the named one. It also refuses, in row 258, that 254 cycles are too far.
+/// The reads of an aged attempt are 255 cycles apart, including the named one. It also refuses, in row 258, that 254 cycles are too far.
 #[tactic(auto, using(crate::proofs::FarLemmas::far_findings))]
 pub fn span_without_the_named_read(
     alloc: Global,
@@ -72,7 +72,7 @@ pub fn too_much_at_the_limit(
     audit(alloc, deck, report)
 }
 
-/// One replay more than fifty million is too much, and the refusal tells just that number.
+/// One replay more than fifty million is too much, and the refusal has exactly that number.
 pub fn too_much_by_another_product(
     alloc: Global,
     deck: &Deck,

@@ -1,10 +1,11 @@
--- The longest of a deck's editions, found one edition after another.
+-- The longest of the editions that a script reaches, found one edition after another.
 use Rattle.std.proofs.Common.{◌≡◌, ◌<◌, ◌≤◌, ℕ, zero, suc, ◌+◌, List, [], ◌∷◌, ◌++◌, get_or, length, max, refl, ap, ◌∙◌, arith}
 use Rattle.std.specs.List.{range_with_len}
 use Rattle.std.proofs.lemmas.List.FromFn.{get_or-range_with_len, length-range_with_len}
 use Rattle.air_history.specs.Places.{greatest_of}
-use Rattle.air_model.specs.Decks.{Deck, count_editions}
+use Rattle.air_model.specs.Decks.{Deck, edition}
 use Rattle.air_sender.proofs.AiredLemmas.{range_more}
+use Rattle.item_catalog.specs.DeckLimits.{script_starts}
 use Rattle.scripts.specs.LongestCycles.{edition_size, longest_cycle}
 
 -- Before all editions.
@@ -35,10 +36,10 @@ greatest_at f [] k d below = absurd (omega arith)
 greatest_at f (x ∷ xs) zero d below = omega arith
 greatest_at f (x ∷ xs) (suc k) d below = let rest = greatest_at f xs k d (omega arith) in omega arith
 
-pub edition_within : (deck : Deck) (e : ℕ) → e < count_editions deck → edition_size deck e ≤ longest_cycle deck
+pub edition_within : (deck : Deck) (e : ℕ) → e ≤ edition deck (script_starts deck) → edition_size deck e ≤ longest_cycle deck
 edition_within deck e below =
-    let n = count_editions deck in
+    let n = edition deck (script_starts deck) + 1 in
     let place : 0 + e ≡ e = omega arith in
-    let own = ap (edition_size deck) (get_or-range_with_len 0 n e 0 below ∙ place) in
+    let own = ap (edition_size deck) (get_or-range_with_len 0 n e 0 (omega arith) ∙ place) in
     let most = greatest_at (edition_size deck) (range_with_len 0 n) e 0 (omega (arith, length-range_with_len 0 n)) in
     omega (arith, own, most)

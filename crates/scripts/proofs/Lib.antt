@@ -10,3 +10,4 @@ mod DrillCounts
 mod DrillExamples
 mod NumberExamples
 mod LongestExamples
+mod HeardLemmas

@@ -11,12 +11,12 @@ use Rattle.std.proofs.lemmas.List.Sums.{count_by_more_no, count_by_more_yes, sum
 use Rattle.std.proofs.lemmas.Option.{get_or_from_slice_get, slice_get-get_or}
 use Rattle.air_history.specs.declared.histories.Event.TheVariants.{Commit, Start}
 use Rattle.air_history.specs.UpdateLists.{UpdateLists}
-use Rattle.air_model.specs.Decks.{Deck, Item, ScriptFits, count_parts, event_of, updates_by}
-use Rattle.scripts.specs.Private.RunSteps.{CountsParts}
+use Rattle.air_model.specs.Decks.{Deck, Item, ScriptFits, event_of, scripted_commits, updates_by}
+use Rattle.scripts.specs.Private.RunSteps.{CountsScripted}
 
 -- The part is a commit of the updater.
-abbrev is_part_of : ℕ → Option ℕ → Bool
-is_part_of by part = option_map_or (λ who. who == by) part false
+abbrev is_commit_by : ℕ → Option ℕ → Bool
+is_commit_by by part = option_map_or (λ who. who == by) part false
 
 -- One more value.
 pub values_more : (items : List Item) (i v : ℕ) (before after : List ℕ) → i < length items → before ≡ map (λ item. item.value) (take i items)
@@ -32,13 +32,13 @@ module _ (deck : Deck) (k by : ℕ) (here : slice_get deck.script k ≡ Some (So
   part_is = get_or_from_slice_get deck.script k (Some by) None here
 
   -- with it the updater has one part more
-  pub one_more_part : count_parts by (take (k + 1) deck.script) ≡ count_parts by (take k deck.script) + 1
-  one_more_part = count_by_more_yes (is_part_of by) deck.script k None within (ap (is_part_of by) part_is ∙ eq-eqb by by refl)
+  pub one_more_part : scripted_commits by (take (k + 1) deck.script) ≡ scripted_commits by (take k deck.script) + 1
+  one_more_part = count_by_more_yes (is_commit_by by) deck.script k None within (ap (is_commit_by by) part_is ∙ eq-eqb by by refl)
 
   -- so its updater has a next update
-  pub part_fits : ScriptFits deck → count_parts by (take k deck.script) < length (updates_by deck by)
+  pub part_fits : ScriptFits deck → scripted_commits by (take k deck.script) < length (updates_by deck by)
   part_fits fits =
-      let all : count_parts by (take (k + 1) deck.script) ≤ count_parts by deck.script = sum_by-take-le (λ part. cond (is_part_of by part) 1 0) deck.script (k + 1) in
+      let all : scripted_commits by (take (k + 1) deck.script) ≤ scripted_commits by deck.script = sum_by-take-le (λ part. cond (is_commit_by by part) 1 0) deck.script (k + 1) in
       omega (arith, one_more_part, fits by)
 
   -- and is one of the deck's
@@ -49,7 +49,7 @@ module _ (deck : Deck) (k by : ℕ) (here : slice_get deck.script k ≡ Some (So
   ]
 
   -- the event of the part
-  pub commit_is : (seq : ℕ) (u : UpdateLists) → seq ≡ count_parts by (take k deck.script) → seq < length (updates_by deck by) → u ≡ get_or (updates_by deck by) seq u
+  pub commit_is : (seq : ℕ) (u : UpdateLists) → seq ≡ scripted_commits by (take k deck.script) → seq < length (updates_by deck by) → u ≡ get_or (updates_by deck by) seq u
       → Commit by seq u ≡ event_of deck (take k deck.script) (get_or deck.script k None)
   unfolding event_of
   commit_is seq u number below is =
@@ -58,25 +58,25 @@ module _ (deck : Deck) (k by : ℕ) (here : slice_get deck.script k ≡ Some (So
       ap (λ u. Commit by seq u) update ∙ ap (λ n. Commit by n (get_or (updates_by deck by) n none)) number ∙ ap (event_of deck (take k deck.script)) (sym part_is)
 
   -- one part more of this updater, and of no other
-  pub counts_more : (made : List ℕ) → CountsParts deck k made → by < length made → CountsParts deck (k + 1) (set made by (get_or made by 0 + 1))
+  pub counts_more : (made : List ℕ) → CountsScripted deck k made → by < length made → CountsScripted deck (k + 1) (set made by (get_or made by 0 + 1))
   counts_more made counts below = λ who l.
       let more = get_or made by 0 + 1 in
       let long = length-set made by more in
-      elim (cases_eq who by) as (λ _. get_or (set made by more) who 0 ≡ count_parts who (take (k + 1) deck.script)) [
+      elim (cases_eq who by) as (λ _. get_or (set made by more) who 0 ≡ scripted_commits who (take (k + 1) deck.script)) [
         | inl same ↦
-            let own : get_or made by 0 ≡ count_parts by (take k deck.script) = counts by below in
-            let at : more ≡ count_parts by (take (k + 1) deck.script) = omega (arith, one_more_part) in
-            ap (λ w. get_or (set made by more) w 0) same ∙ get_or-set_same made by more 0 below ∙ at ∙ ap (λ w. count_parts w (take (k + 1) deck.script)) (sym same)
+            let own : get_or made by 0 ≡ scripted_commits by (take k deck.script) = counts by below in
+            let at : more ≡ scripted_commits by (take (k + 1) deck.script) = omega (arith, one_more_part) in
+            ap (λ w. get_or (set made by more) w 0) same ∙ get_or-set_same made by more 0 below ∙ at ∙ ap (λ w. scripted_commits w (take (k + 1) deck.script)) (sym same)
         | inr other ↦
             get_or-set_other made by who more 0 other ∙ counts who (omega arith)
-            ∙ sym (count_by_more_no (is_part_of who) deck.script k None within (ap (is_part_of who) part_is ∙ ne_eqb by who (λ e. other (sym e))))
+            ∙ sym (count_by_more_no (is_commit_by who) deck.script k None within (ap (is_commit_by who) part_is ∙ ne_eqb by who (λ e. other (sym e))))
       ]
 
 -- No part more where the part is a start.
-pub counts_same : (deck : Deck) (k : ℕ) (made : List ℕ) → slice_get deck.script k ≡ Some None → k < length deck.script → CountsParts deck k made → CountsParts deck (k + 1) made
+pub counts_same : (deck : Deck) (k : ℕ) (made : List ℕ) → slice_get deck.script k ≡ Some None → k < length deck.script → CountsScripted deck k made → CountsScripted deck (k + 1) made
 counts_same deck k made here within counts = λ who l.
     let part : get_or deck.script k None ≡ None = get_or_from_slice_get deck.script k None None here in
-    counts who l ∙ sym (count_by_more_no (is_part_of who) deck.script k None within (ap (is_part_of who) part))
+    counts who l ∙ sym (count_by_more_no (is_commit_by who) deck.script k None within (ap (is_commit_by who) part))
 
 -- The update that was read.
 pub update_read : (updates own : List UpdateLists) (seq : ℕ) (copy u : UpdateLists) → updates ≡ own → u ≡ get_or updates seq u → copy ≡ u → copy ≡ get_or own seq copy

@@ -4,14 +4,14 @@ use Rattle.std.proofs.lemmas.List.{get_or-replicate, length-replicate, length_pu
 use Rattle.air_history.specs.declared.histories.Event.{Event}
 use Rattle.air_history.specs.Boards.{board_of}
 use Rattle.air_model.specs.Buckets.{entry_len}
-use Rattle.air_model.specs.Decks.{Deck, count_parts, script_history, values_in}
+use Rattle.air_model.specs.Decks.{Deck, script_history, scripted_commits, values_in}
 use Rattle.scripts.specs.declared.piece_runs.PieceRun.{PieceRun}
 use Rattle.scripts.specs.PieceRuns.{IsPieceRun}
-use Rattle.scripts.specs.Private.RunSteps.{CountsParts}
+use Rattle.scripts.specs.Private.RunSteps.{CountsScripted}
 use Rattle.air_sender.proofs.RunLoops.{event_in, event_more}
 
-no_parts : (deck : Deck) (by n : ℕ) → n ≡ 0 → count_parts by (take n deck.script) ≡ 0
-no_parts deck by n e = ap (λ n. count_parts by (take n deck.script)) e
+no_parts : (deck : Deck) (by n : ℕ) → n ≡ 0 → scripted_commits by (take n deck.script) ≡ 0
+no_parts deck by n e = ap (λ n. scripted_commits by (take n deck.script)) e
 
 -- Before any event.
 pub piece_begins : (deck : Deck) (r : PieceRun) → r.events.items ≡ [] → r.board ≡ board_of (values_in deck) [] → r.made.items ≡ replicate (length deck.updates) 0 → length r.room.items ≡ 24 + entry_len deck.settings.version * length deck.items
@@ -31,7 +31,7 @@ piece_begins deck r none board made room =
 -- After one event more.
 pub piece_next : (deck : Deck) (before after : PieceRun) (e : Event) → IsPieceRun deck before → length before.events.items < length deck.script → e ≡ event_in deck (length before.events.items)
     → after.events.items ≡ before.events.items ++ e ∷ [] → after.board ≡ board_of (values_in deck) (before.events.items ++ e ∷ []) → length after.made.items ≡ length deck.updates
-    → CountsParts deck (length before.events.items + 1) after.made.items → length after.room.items ≡ 24 + entry_len deck.settings.version * length deck.items → IsPieceRun deck after
+    → CountsScripted deck (length before.events.items + 1) after.made.items → length after.room.items ≡ 24 + entry_len deck.settings.version * length deck.items → IsPieceRun deck after
 piece_next deck before after e was more is grew board updaters counts room =
     let k = length before.events.items in
     let size : length after.events.items ≡ k + 1 = ap length grew ∙ length_push before.events.items e in
@@ -40,6 +40,6 @@ piece_next deck before after e was more is grew board updaters counts room =
       within = omega (arith, size);
       stepped = board ∙ ap (board_of (values_in deck)) (sym grew);
       updaters = updaters;
-      counts = subst (λ n. CountsParts deck n after.made.items) (sym size) counts;
+      counts = subst (λ n. CountsScripted deck n after.made.items) (sym size) counts;
       room = room;
     }

@@ -20,7 +20,7 @@ use Rattle.listeners.specs.Hearings.{AreHearing}
 use Rattle.listeners.proofs.EtherLemmas.{room_few}
 use Rattle.listeners.proofs.ReaderLemmas.{few_records}
 use Rattle.air_sender.specs.AiredBytes.{aired_bytes}
-use Rattle.air_sender.proofs.AiredLemmas.{buckets_none, front_aired}
+use Rattle.air_sender.proofs.AiredLemmas.{beginning_aired, buckets_none}
 use Rattle.air_sender.proofs.TapeLemmas.{records_short, tape_back}
 
 -- Two tapes one behind the other are the tape of all their records.
@@ -37,10 +37,10 @@ unfolding tape_of
 no_tape deck now none = ap tape_of (nothing_aired deck now none)
 
 -- What the first events of a script's history air begins what all of them air.
-script_begins : (deck : Deck) (now : List Event) (k : ℕ) → now ≡ take k (script_history deck) → (rest : List (List ℕ)) × (aired_bytes deck (script_history deck) ≡ aired_bytes deck now ++ rest)
+pub script_begins : (deck : Deck) (now : List Event) (k : ℕ) → now ≡ take k (script_history deck) → (rest : List (List ℕ)) × (aired_bytes deck (script_history deck) ≡ aired_bytes deck now ++ rest)
 script_begins deck now k is =
     let H = script_history deck in
-    let front = front_aired deck (take k H) (drop k H) in
+    let front = beginning_aired deck (take k H) (drop k H) in
     (front.0, ap (aired_bytes deck) (sym (take-append-drop k H)) ∙ front.1 ∙ ap (λ G. aired_bytes deck G ++ front.0) (sym is))
 
 -- So does their tape.

@@ -2,7 +2,7 @@
 use Rattle.std.specs.Prelude.{◌≡◌, ℕ, ◌+◌, ◌*◌, ◌<◌, ◌≤◌, length, get_or, take}
 use Rattle.air_history.specs.Boards.{board_of}
 use Rattle.air_model.specs.Buckets.{entry_len}
-use Rattle.air_model.specs.Decks.{Deck, count_parts, script_history, values_in}
+use Rattle.air_model.specs.Decks.{Deck, script_history, scripted_commits, values_in}
 use Rattle.bucket_codec.specs.declared.offsets.TheConstants.{HEAD_BYTES}
 use Rattle.scripts.specs.declared.piece_runs.PieceRun.{PieceRun}
 
@@ -13,5 +13,5 @@ pub record IsPieceRun (deck : Deck) (r : PieceRun) : Type 0 where
   pub within : length r.events.items ≤ length deck.script
   pub stepped : r.board ≡ board_of (values_in deck) r.events.items
   pub updaters : length r.made.items ≡ length deck.updates
-  pub counts : (by : ℕ) → by < length r.made.items → get_or r.made.items by 0 ≡ count_parts by (take (length r.events.items) deck.script)
+  pub counts : (by : ℕ) → by < length r.made.items → get_or r.made.items by 0 ≡ scripted_commits by (take (length r.events.items) deck.script)
   pub room : length r.room.items ≡ HEAD_BYTES + entry_len deck.settings.version * length deck.items

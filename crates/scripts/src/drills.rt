@@ -14,8 +14,7 @@ use crate::drills::sums::{
     sum_dozed, sum_opened,
 };
 use crate::laws::{drill_counts_law, drill_slots_law, drill_tape_law};
-use crate::sinks::Discard;
-use crate::whole_scripts::{AiredScript, air_script};
+use crate::whole_scripts::{AiredScript, hear_script};
 use air_base::NoMemory;
 use air_report::{finish, put_numbers, row_writer};
 use air_sender::tape_len;
@@ -40,7 +39,7 @@ pub fn run_drill<T: Threads + Sync>(
     drill_counts_law();
     let deck = drill_deck(alloc, seed, size)?;
     let planned = plan_short(alloc, deck)?;
-    let aired = air_script(threads, alloc, &planned, &Discard, &mut ())?;
+    let aired = hear_script(threads, alloc, &planned)?;
     let text = line_of(alloc, &numbers_of(&planned, &aired))?;
     Ok(text)
 }

@@ -19,4 +19,4 @@ pub use piece_runs::PieceRun;
 pub use script_airing::ScriptAiring;
 pub use sinks::{Discard, PieceSink};
 pub use sizes::piece_cycles;
-pub use whole_scripts::{AiredScript, air_script};
+pub use whole_scripts::{AiredScript, air_script, hear_script};

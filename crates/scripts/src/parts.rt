@@ -2,7 +2,7 @@
 
 ghost use Rattle.std.specs.Prelude.{◌≡◌, ◌<◌, ◌+◌, None, IfOk, get_or, length, take};
 ghost use Rattle.air_model.specs.Decks.{event_of, values_in};
-ghost use Rattle.scripts.specs.Private.RunSteps.{CountsParts};
+ghost use Rattle.scripts.specs.Private.RunSteps.{CountsScripted};
 
 use air_base::NoMemory;
 use air_history::Event;
@@ -24,7 +24,7 @@ pub(crate) fn values_of(alloc: Global, deck: &Deck) -> Result<Vec<u64>, NoMemory
 pub(crate) fn event_at(alloc: Global, deck: &Deck, made: &[u32], k: u32) -> Result<Event, NoMemory>
     requires within { k < length deck.now.script }
     requires updaters { length made.now ≡ length deck.now.updates }
-    requires made { CountsParts deck.now k made.now }
+    requires made { CountsScripted deck.now k made.now }
     ensures { IfOk result (λ event. event ≡ event_of deck.now (take k deck.now.script) (get_or deck.now.script k None)) }
 {
     deck.shows_well_made();
@@ -40,8 +40,8 @@ pub(crate) fn event_at(alloc: Global, deck: &Deck, made: &[u32], k: u32) -> Resu
 pub(crate) fn count_part(deck: &Deck, made: &mut [u32], k: u32)
     requires within { k < length deck.now.script }
     requires updaters { length made.old ≡ length deck.now.updates }
-    requires made { CountsParts deck.now k made.old }
-    ensures { CountsParts deck.now (k + 1) made.new }
+    requires made { CountsScripted deck.now k made.old }
+    ensures { CountsScripted deck.now (k + 1) made.new }
 {
     deck.shows_well_made();
     if let Some(by) = deck.script(k) {

@@ -3,15 +3,21 @@
 //! The buckets of the pieces, one piece behind the other, are those of the script's whole history: so no more than one piece of
 //! the tape need be kept, and one mast gathers them all.
 
-ghost use Rattle.std.specs.Prelude.{◌≡◌, ◌↔◌, ◌<◌, ◌≤◌, ◌+◌, ◌*◌, ◌++◌, ◌∷◌, [], ℕ, List, false, cond, IfOk, IsTrue, OnOk, length};
+ghost use Rattle.std.specs.Prelude.{◌≡◌, ◌↔◌, ◌<◌, ◌≤◌, ◌+◌, ◌*◌, ◌++◌, ◌∷◌, [], ℕ, List, None, false, cond, IfOk, IsTrue, OnOk, get_or, length, take};
+ghost use Rattle.air_base.specs.declared.limits.TheConstants.{MOST_TAPE_BYTES};
 ghost use Rattle.air_history.specs.Boards.{board_of};
 ghost use Rattle.air_history.specs.Histories.{starts};
 ghost use Rattle.air_model.specs.Buckets.{entry_len};
-ghost use Rattle.air_model.specs.Decks.{script_history, values_in};
+ghost use Rattle.air_model.specs.AiredLaws.{CanAir};
+ghost use Rattle.air_model.specs.Decks.{event_of, script_history, values_in};
+ghost use Rattle.air_model.specs.Outputs.{script_tape};
 ghost use Rattle.bucket_codec.specs.declared.offsets.TheConstants.{HEAD_BYTES};
 ghost use Rattle.air_sender.specs.TapeMasts.{told_by_tape};
 ghost use Rattle.air_sender.specs.AiredBytes.{aired_bytes};
+ghost use Rattle.listeners.specs.declared.ethers.TheConstants.{MOST_TAPE_RECORDS};
+ghost use Rattle.listeners.specs.Hearings.{AreTogether};
 ghost use Rattle.scripts.specs.PieceRuns.{IsPieceRun};
+ghost use Rattle.scripts.specs.Private.RunSteps.{CountsScripted};
 
 use crate::parts::{count_part, event_at, values_of};
 use air_base::NoMemory;
@@ -19,6 +25,7 @@ use air_history::Event;
 use air_sender::{TapeMast, air_cycle, below_law, bucket_room, own_cycle_law, own_form};
 use chunk_program::Planned;
 use control_matrix::Board;
+use listeners::{Listener, all_hear_cycle};
 use std::alloc::Global;
 
 /// The events so far, how many of them are each updater's, their board, and room for a bucket's bytes.
@@ -101,15 +108,90 @@ impl PieceRun {
         ensures aired { (before : List (List ℕ)) → aired_bytes planned.now self.old.events.items ≡ before ++ (told_by_tape piece.old).buckets →
             OnOk result (aired_bytes planned.now self.new.events.items ≡ before ++ (told_by_tape piece.new).buckets) }
     {
+        let event = self.run_event(alloc, planned)?;
+        self.air(planned, &event, piece)?;
+        let started = event.is_start();
+        self.events.push(event)?;
+        Ok(started)
+    }
+
+    /// Runs the next event, and lets all readers hear what it airs: from the board, so a bucket is encoded only where a reader opens it. They
+    /// are let go where memory runs out.
+    pub fn next_heard(
+        &mut self,
+        alloc: Global,
+        planned: &Planned,
+        listeners: Vec<Listener>,
+    ) -> Result<Vec<Listener>, NoMemory>
+        requires kept { IsPieceRun planned.now self.old }
+        requires more { length self.old.events.items < length planned.now.script }
+        requires few { length (script_tape planned.now) ≤ MOST_TAPE_BYTES }
+        requires heard { AreTogether planned.now (aired_bytes planned.now self.old.events.items) listeners.items }
+        ensures kept { OnOk result (IsPieceRun planned.now self.new) }
+        ensures one { OnOk result (length self.new.events.items ≡ length self.old.events.items + 1) }
+        ensures heard { IfOk result (λ ls. AreTogether planned.now (aired_bytes planned.now self.new.events.items) ls.items) }
+    {
+        planned.shows_planned();
+        let event = self.run_event(alloc, planned)?;
+        let listeners = self.hear(alloc, planned, &event, listeners)?;
+        self.events.push(event)?;
+        Ok(listeners)
+    }
+
+    /// Runs the next event, which isn't among the events yet: the board and what is counted are as after it.
+    fn run_event(&mut self, alloc: Global, planned: &Planned) -> Result<Event, NoMemory>
+        requires kept { IsPieceRun planned.now self.old }
+        requires more { length self.old.events.items < length planned.now.script }
+        ensures event { IfOk result (λ e. e ≡ event_of planned.now (take (length self.old.events.items) planned.now.script) (get_or planned.now.script (length self.old.events.items) None)) }
+        ensures board { IfOk result (λ e. self.new.board ≡ board_of (values_in planned.now) (self.old.events.items ++ e ∷ [])) }
+        ensures updaters { OnOk result (length self.new.made.items ≡ length planned.now.updates) }
+        ensures made { OnOk result (CountsScripted planned.now (length self.old.events.items + 1) self.new.made.items) }
+        ensures events { self.new.events ≡ self.old.events }
+        ensures room { self.new.room ≡ self.old.room }
+    {
         let deck = planned.deck();
         let k = self.events.len() as u32;
         let event = event_at(alloc, deck, &self.made, k)?;
         count_part(deck, &mut self.made, k);
         self.board.apply(&event);
-        self.air(planned, &event, piece)?;
-        let started = event.is_start();
-        self.events.push(event)?;
-        Ok(started)
+        Ok(event)
+    }
+
+    /// Lets all readers hear the cycle that an event starts, from the board that the event leaves; a commit starts none.
+    fn hear(
+        &mut self,
+        alloc: Global,
+        planned: &Planned,
+        event: &Event,
+        listeners: Vec<Listener>,
+    ) -> Result<Vec<Listener>, NoMemory>
+        requires stepped { self.old.board ≡ board_of (values_in planned.now) (self.old.events.items ++ event.now ∷ []) }
+        requires can { CanAir planned.now (self.old.events.items ++ event.now ∷ []) }
+        requires few { length (aired_bytes planned.now (self.old.events.items ++ event.now ∷ [])) ≤ MOST_TAPE_RECORDS }
+        requires room { length self.old.room.items ≡ HEAD_BYTES + entry_len planned.now.settings.version * length planned.now.items }
+        requires heard { AreTogether planned.now (aired_bytes planned.now self.old.events.items) listeners.items }
+        ensures heard { IfOk result (λ ls. AreTogether planned.now (aired_bytes planned.now (self.old.events.items ++ event.now ∷ [])) ls.items) }
+        ensures room { length self.new.room.items ≡ HEAD_BYTES + entry_len planned.now.settings.version * length planned.now.items }
+        ensures events { self.new.events ≡ self.old.events }
+        ensures made { self.new.made ≡ self.old.made }
+        ensures board { self.new.board ≡ self.old.board }
+    {
+        if !event.is_start() {
+            return Ok(listeners);
+        }
+        own_cycle_law();
+        below_law();
+        planned.shows_planned();
+        let program = planned.plans().in_force(self.board.cycle());
+        let listeners = all_hear_cycle(
+            alloc,
+            listeners,
+            program,
+            &self.board,
+            own_form(planned),
+            &mut self.room,
+        )?;
+        Ok(listeners)
     }
 
     /// Airs the cycle that an event starts, from the board that the event leaves, with the program in force in it; a commit starts none.

@@ -5,14 +5,17 @@ ghost use Rattle.air_base.specs.declared.limits.TheConstants.{MOST_TAPE_BYTES};
 ghost use Rattle.air_model.specs.Decks.{script_history};
 ghost use Rattle.air_model.specs.Outputs.{script_tape, true_sessions};
 ghost use Rattle.air_model.specs.Reports.{counts_lines, verdict_lines};
+ghost use Rattle.listeners.specs.EtherListeners.{IsPerfect};
 ghost use Rattle.scripts.specs.Sinks.{StopsAt};
 
+use crate::piece_runs::PieceRun;
 use crate::script_airing::ScriptAiring;
-use crate::sinks::PieceSink;
+use crate::sinks::{Discard, PieceSink};
 use crate::sizes::piece_cycles;
+use air_base::NoMemory;
 use air_history::Event;
 use chunk_program::Planned;
-use listeners::Sessions;
+use listeners::{Sessions, end_all, is_perfect, listeners_of};
 use std::alloc::Global;
 use std::thread::Threads;
 
@@ -47,4 +50,42 @@ pub fn air_script<T: Threads + Sync, P, S: PieceSink<P>>(
     }
     let (events, sessions) = aired.end(threads, alloc, planned)?;
     Ok(AiredScript { events, sessions })
+}
+
+/// Airs the script of a deck without its tape: the readers hear what is aired, and nothing else is made of it.
+pub fn hear_script<T: Threads + Sync>(
+    threads: &T,
+    alloc: Global,
+    planned: &Planned,
+) -> Result<AiredScript, NoMemory>
+    requires { length (script_tape planned.now) ≤ MOST_TAPE_BYTES }
+    ensures events { IfOk result (λ s. s.events.items ≡ script_history planned.now) }
+    ensures verdicts { IfOk result (λ s. s.sessions.verdicts.items ≡ verdict_lines (true_sessions planned.now (script_history planned.now))) }
+    ensures counts { IfOk result (λ s. s.sessions.counts.items ≡ counts_lines (true_sessions planned.now (script_history planned.now))) }
+{
+    if is_perfect(planned.deck()) {
+        return hear_perfect_script(alloc, planned);
+    }
+    air_script(threads, alloc, planned, &Discard, &mut ())
+}
+
+/// The same where nothing of what is aired is lost, heard again or late: the readers hear it from the board.
+fn hear_perfect_script(alloc: Global, planned: &Planned) -> Result<AiredScript, NoMemory>
+    requires few { length (script_tape planned.now) ≤ MOST_TAPE_BYTES }
+    requires perfect { IsPerfect planned.now }
+    ensures events { IfOk result (λ s. s.events.items ≡ script_history planned.now) }
+    ensures verdicts { IfOk result (λ s. s.sessions.verdicts.items ≡ verdict_lines (true_sessions planned.now (script_history planned.now))) }
+    ensures counts { IfOk result (λ s. s.sessions.counts.items ≡ counts_lines (true_sessions planned.now (script_history planned.now))) }
+{
+    planned.shows_planned();
+    let mut run = PieceRun::new(alloc, planned)?;
+    let mut listeners = listeners_of(alloc, planned)?;
+    while !run.is_done(planned) {
+        listeners = run.next_heard(alloc, planned, listeners)?;
+    }
+    let sessions = end_all(alloc, listeners)?;
+    Ok(AiredScript {
+        events: run.events,
+        sessions,
+    })
 }

@@ -1,4 +1,4 @@
--- What is known of the next piece of a run of small scripts.
+-- Facts about the next piece of a run of small scripts.
 use Rattle.std.proofs.Common.{◌≡◌, ◌≤◌, ◌<◌, ◌+◌, ◌++◌, ◌∙◌, ℕ, zero, suc, List, [], ◌∷◌, drop, length, take, map, None, Some, ap, sym, refl, arith}
 use Rattle.air_history.specs.declared.histories.Event.{Event}
 use Rattle.air_history.specs.declared.histories.Event.TheVariants.{Start}
@@ -14,7 +14,7 @@ use Rattle.air_model.specs.Programs.{chunk, chunk_len, least_common_multiple, mi
 use Rattle.session_pins.specs.SmallBuckets.{item_bytes}
 use Rattle.session_pins.specs.SmallDecks.{first_updater_commit, scripted, update_to, updated}
 
--- A beginning of two events that has more than one is both.
+-- A beginning of two events that has more than one has both.
 both_of : (H : List Event) (a b : Event) (n : ℕ) → H ≡ take n (a ∷ b ∷ []) → n ≤ 2 → 1 < n → H ≡ a ∷ b ∷ []
 both_of H a b zero is_part few some = absurd (omega arith)
 both_of H a b (suc zero) is_part few some = absurd (omega arith)
@@ -67,7 +67,7 @@ second_cycle deck old H piece is_scripted is_old begun within more aired =
 
 -- ---- three starts
 
--- A beginning of three starts that has two at most, and two where it isn't all.
+-- A beginning of three starts that has at most two, and exactly two if it isn't all.
 two_of : (H : List Event) (n : ℕ) → H ≡ take n (Start ∷ Start ∷ Start ∷ []) → n ≤ 3 → starts H ≤ 2 → (n < 3 → starts H ≡ 2) → H ≡ Start ∷ Start ∷ []
 unfolding starts is_start
 two_of H zero is_part few most full = absurd (omega (arith, ap starts is_part, full (omega arith)))

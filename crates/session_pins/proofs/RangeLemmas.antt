@@ -7,7 +7,7 @@ use Rattle.air_model.specs.Buckets.{Bucket, Column, IsInRange, Vector, count_of,
 use Rattle.session_pins.specs.EditionReceivers.{changed_bucket}
 use Rattle.session_pins.specs.SmallBuckets.{bucket}
 
--- What is said of a bucket is said of the answer that has it.
+-- What holds of a bucket holds of the answer that has it.
 pub of_answer : (b : Bucket) (answer : Result Bucket BucketFault) → answer ≡ Ok b → IsInRange b → IfOk answer IsInRange
 of_answer b answer is range = subst (λ a. IfOk a IsInRange) (sym is) range
 

@@ -1,4 +1,4 @@
--- What the sessions of the small decks come to, computed.
+-- The sessions of the small decks, computed.
 use Rattle.std.proofs.Common.{◌≡◌, ◌≤◌, ◌∙◌, length, arith, ℕ, List, [], ◌∷◌, None, Some, Option, ap, refl}
 use Rattle.air_base.specs.declared.limits.TheConstants.{MOST_TAPE_BYTES}
 use Rattle.air_base.specs.declared.verdicts.VerdictKind.TheVariants.{Accept, Unfinished}
@@ -36,7 +36,7 @@ use Rattle.session_pins.specs.SmallReceivers.{counted, counts, first_query_line,
 abbrev pub through_ethers : Deck → TapeRead → List State
 through_ethers deck tape = sessions_over (by_entries (scheme_in deck)) deck (λ r. heard_by deck.settings.seed r (odds_in deck) tape.records)
 
--- What noisy ethers leave: nothing for the first reader, and two buckets for the second, of which one is item 0.
+-- What noisy ethers give: nothing for the first reader, and two buckets for the second, of which one is item 0.
 record Noisy : Type 0 where
   verdicts : verdict_lines (through_ethers noisy both_records) ≡ first_query_line 0 Unfinished [] ∷ first_query_line 1 Unfinished (value_read 0 1 10 ∷ []) ∷ []
   lines : counts_lines (through_ethers noisy both_records) ≡ counted 0 (counts 0 0 0 0 0 0) ∷ counted 1 (counts 1 1 0 0 0 0) ∷ []
@@ -61,7 +61,7 @@ noisy_lines deck tape is_noisy both =
 abbrev pub over_records : Deck → List ℕ → List State
 over_records deck tape = sessions_over (by_entries (scheme_in deck)) deck (λ r. (tape_read tape).records)
 
--- What the pair's reader tells of the tape of both buckets, and what a cut tape holds.
+-- The session of the pair's reader over the tape of both buckets, and the records of a cut tape.
 record Heard : Type 0 where
   verdicts : verdict_lines (over_records pair pair_tape) ≡ first_query_line 0 Accept (value_read 0 1 10 ∷ value_read 1 1 20 ∷ []) ∷ []
   lines : counts_lines (over_records pair pair_tape) ≡ counted 0 (counts 2 0 0 0 0 0) ∷ []

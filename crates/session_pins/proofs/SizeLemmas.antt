@@ -1,4 +1,4 @@
--- How many bytes the longest cycle of a small deck has.
+-- The length in bytes of the longest cycle of a small deck.
 use Rattle.std.proofs.Common.{◌≡◌, ◌≤◌, ◌<◌, ◌+◌, ◌*◌, ◌∙◌, ℕ, zero, suc, List, length, map, None, [], ◌∷◌, ap, refl, arith}
 use Rattle.std.proofs.lemmas.Nat.{row_fits}
 use Rattle.air_history.specs.Places.{greatest_of}
@@ -23,7 +23,7 @@ sizes_computed : Sizes
 unfolding greatest_of cut order order_with chunk chunk_len least_common_multiple minor_cycle num_chunks num_minors program
 sizes_computed = record { pair_size = refl; frequent_size = refl }
 
--- Of a deck of this version, with these items and disks, a cycle of edition 0 has this size.
+-- In a deck of this version, with these items and disks, a cycle of edition 0 has this size.
 size_at : (deck : Deck) (version : ℕ) (items : List Item) (specs : List DiskSpec) (size : ℕ) → deck.settings.version ≡ version → deck.items ≡ items → deck.disks ≡ specs
     → size_of version items specs ≡ size → edition_size deck 0 ≡ size
 size_at deck version items specs size same_version same_items same_disks sized =
@@ -33,7 +33,7 @@ size_at deck version items specs size same_version same_items same_disks sized =
 pub scripted_size : (deck : Deck) → deck ≡ scripted (None ∷ None ∷ []) → 1 * longest_cycle deck ≡ 72
 scripted_size deck is_scripted = omega (arith, ap longest_cycle is_scripted, sizes_computed.pair_size)
 
--- Where a piece has 4,194,304 bytes at most, or one cycle, it has no more than 2,048 cycles of 2,048 bytes or more.
+-- If a piece has at most 4,194,304 bytes, or one cycle, it has at most 2,048 cycles of 2,048 bytes or more.
 few_cycles : (n size : ℕ) → 2048 ≤ size → (1 < n → n * size ≤ 4194304) → n ≤ 2048
 few_cycles zero size least few = omega arith
 few_cycles (suc zero) size least few = omega arith
@@ -42,7 +42,7 @@ few_cycles (suc (suc n)) size least few =
     let filled : suc n * 2048 + 2048 ≤ suc (suc n) * size = row_fits (suc n) 2048 (suc (suc n)) size (omega arith) least in
     omega (arith, fits, filled)
 
--- So it is of each deck of version 1 whose first program has the frequent item alone, whatever its replans.
+-- The same holds for each deck of version 1 whose first program has only the frequent item, regardless of its replans.
 pub few_frequent : (deck : Deck) (n : ℕ) → deck.settings.version ≡ 1 → deck.items ≡ frequent.items → deck.disks ≡ frequent.disks
     → (1 < n → n * longest_cycle deck ≤ 4194304) → n ≤ 2048
 few_frequent deck n same_version same_items same_disks few =

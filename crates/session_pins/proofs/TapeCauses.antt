@@ -1,4 +1,4 @@
--- What is known of a tape whose bytes are told: that they were heard, or why they weren't.
+-- Facts about a tape whose bytes are told: it was heard, or why it wasn't.
 use Rattle.std.proofs.Common.{◌≡◌, ◌≤◌, ◌<◌, ◌+◌, ◌∙◌, ℕ, List, Option, Some, None, drop, length, sym, subst, arith}
 use Rattle.std.specs.Prelude.{IfErr, IfOk, MatchResult, Result, Ok, Err}
 use Rattle.air_devices.specs.Shelves.{ShelfState}
@@ -16,11 +16,11 @@ use Rattle.session_pins.proofs.SessionLemmas.{cut_cut, pair_whole}
 pub told_bytes : (file : Option (List ℕ)) (bytes tape : List ℕ) → file ≡ Some tape → ToldIs file bytes → bytes ≡ tape
 told_bytes file bytes tape is_told told = subst (λ o. ToldIs o bytes) is_told told
 
--- What is so of the bytes that there are is so of the told ones.
+-- What holds of some bytes holds of the told ones.
 of_known : (file : Option (List ℕ)) (tape : List ℕ) (P : List ℕ → Type 0) → file ≡ Some tape → (bytes : List ℕ) × ToldIs file bytes × P bytes → P tape
 of_known file tape P is_told (bytes, known, p) = subst P (told_bytes file bytes tape is_told known) p
 
--- A whole tape within its limit isn't heard only where it can't be read or memory runs out.
+-- A whole tape within its limit isn't heard only if it can't be read or the call is out of memory.
 pub unread_cause : (name : List ℕ) (most : ℕ) (before now : ShelfState) (s : Status) → before.told.file name ≡ Some pair_tape → 72 ≤ most →
     UnheardCause name most before now s → IsUnread s
 unfolding UnheardCause UnreadCause
@@ -37,7 +37,7 @@ unread_cause name most before now status.ReadFault is_told few cause = tt
 unread_cause name most before now status.NoMemory is_told few cause = tt
 unread_cause name most before now other is_told few cause = absurd cause
 
--- A tape that is cut in the record at byte 36 is told as that.
+-- A tape that is cut in the record at byte 36 is answered as that.
 pub cut_cause : (name : List ℕ) (before now : ShelfState) (s : Status) → before.told.file name ≡ Some cut_tape → UnheardCause name 72 before now s → IsCutAt 36 s
 unfolding UnheardCause UnreadCause
 cut_cause name before now (status.TapeCut at) is_told cause =

@@ -16,7 +16,7 @@ aging_air = record (air_by FMatrix) { version = 2 }
 abbrev pub held_read : Read
 held_read = heard 0 1 10 (0 ∷ 0 ∷ [])
 
--- It is held, and kept as a copy; a query is tried twice, and there is room for two copies.
+-- The read is held, and kept as a copy; a query is tried twice, and there is room for two copies.
 abbrev pub keeping : Receiver
 keeping = record { air = aging_air; reader = record asker { plan = record { room = 2; age = 9; tries = 2 } }; state = record (holding 1) { copies = held_read ∷ [] }; last = [] }
 

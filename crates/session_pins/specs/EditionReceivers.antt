@@ -1,4 +1,4 @@
--- Receivers of an air whose program changes over at cycle 2, and what they hear.
+-- Receivers of an air whose program changes at cycle 2, and what they hear.
 use Rattle.std.specs.Prelude.{ℕ, [], ◌∷◌, Some}
 use Rattle.air_base.specs.declared.verdicts.Policy.TheVariants.{FMatrix}
 use Rattle.air_base.specs.declared.verdicts.ReadOf.{ReadOf}
@@ -11,7 +11,7 @@ use Rattle.receiver_core.specs.Receivers.{Receiver}
 use Rattle.session_pins.specs.SmallBuckets.{bucket}
 use Rattle.session_pins.specs.SmallReceivers.{air_by, counts, session_line}
 
--- From cycle 2 on the two items have changed places, and item 1 is worth more.
+-- In cycle 2 the two items change places, and item 1 is worth more from then on.
 abbrev pub changing_air : Air
 changing_air = record (air_by FMatrix) { replans = 2 ∷ []; slots = (Some 0 ∷ Some 1 ∷ []) ∷ (Some 1 ∷ Some 0 ∷ []) ∷ []; pix = (2 ∷ 1 ∷ []) ∷ (1 ∷ 2 ∷ []) ∷ [] }
 

@@ -7,7 +7,7 @@ use Rattle.air_history.specs.UpdateLists.{UpdateLists}
 use Rattle.air_model.specs.declared.deck.Settings.{Settings}
 use Rattle.air_model.specs.Decks.{Deck}
 
--- Nothing is lost, heard again or late.
+-- Nothing is lost, heard again or delayed.
 abbrev pub clear_air : Settings
 clear_air = record { policy = FMatrix; version = 1; cycles = 10; seed = 0; loss = 0; again = 0; late = 0; monitors = 0; hears = 1000000 }
 
@@ -43,7 +43,7 @@ frequent = record pair {
   queries = ((0 ∷ []) ∷ []) ∷ [];
 }
 
--- Half of what is aired is lost, half of the rest comes twice, and half of it late; two readers ask for both items.
+-- Half of what is aired is lost, half of the rest comes twice, and half of it is delayed; two readers ask for both items.
 abbrev pub noisy : Deck
 noisy = record pair {
   readers = record { room = 0; age = 0; tries = 1 } ∷ record { room = 0; age = 0; tries = 1 } ∷ [];

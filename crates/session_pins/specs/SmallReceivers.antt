@@ -1,4 +1,4 @@
--- A receiver of two items, its states, and what it tells.
+-- A receiver of two items, its states, and what it answers.
 use Rattle.std.specs.Prelude.{ℕ, List, [], ◌∷◌, Some}
 use Rattle.air_base.specs.declared.verdicts.Counts.{Counts}
 use Rattle.air_base.specs.declared.verdicts.Policy.{Policy}
@@ -9,7 +9,7 @@ use Rattle.air_model.specs.declared.reports.CountsLine.{CountsLine}
 use Rattle.air_model.specs.declared.reports.VerdictLine.{VerdictLine}
 use Rattle.air_model.specs.Aired.{Air}
 use Rattle.air_model.specs.Reads.{Read}
-use Rattle.air_model.specs.Sessions.{Line, Reader, State, start}
+use Rattle.air_model.specs.Sessions.{Reader, SessionLine, State, start}
 use Rattle.receiver_core.specs.Receivers.{Receiver}
 
 -- In each cycle slot 0 carries item 0, and slot 1 item 1.
@@ -37,7 +37,7 @@ abbrev pub holding : ℕ → State
 holding cycle = record start { held = heard 0 cycle 10 (0 ∷ 0 ∷ []) ∷ []; now = cycle; counts = counts 1 0 0 0 0 0 }
 
 -- The verdict line of an attempt.
-abbrev pub session_line : ℕ → ℕ → VerdictKind → List ReadOf → Line
+abbrev pub session_line : ℕ → ℕ → VerdictKind → List ReadOf → SessionLine
 session_line query attempt kind reads = record { verdict = record { query = query; attempt = attempt; kind = kind }; reads = reads }
 
 -- The verdict line of a reader's attempt at its first query.

@@ -25,7 +25,7 @@ pub fn newer_version_fits(
     receiver.hear(heard)
 }
 
-/// A read that lies too far from the held one and clashes with it too makes the attempt an aged one.
+/// A read that is too far from the held one and also clashes with it makes the attempt an aged one.
 pub fn clash_asked_before_the_span(
     receiver: &mut Receiver,
     heard: &Result<BucketView<'_>, BucketFault>,
@@ -38,7 +38,7 @@ pub fn clash_asked_before_the_span(
     receiver.hear(heard)
 }
 
-/// An aged attempt leaves the copy of the held read, by which the next one begins.
+/// An aged attempt leaves the copy of the held read, with which the next one begins.
 pub fn copy_dropped_by_an_aged_attempt(
     receiver: &mut Receiver,
     heard: &Result<BucketView<'_>, BucketFault>,
@@ -57,7 +57,7 @@ pub fn copy_dropped_by_an_aged_attempt(
     receiver.hear(heard)
 }
 
-/// The read that makes an attempt an aged one is kept as a copy, also where this was the only try.
+/// The read that makes an attempt an aged one is kept as a copy, even if this was the only try.
 pub fn aged_read_not_offered(
     receiver: &mut Receiver,
     heard: &Result<BucketView<'_>, BucketFault>,

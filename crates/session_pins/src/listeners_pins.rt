@@ -47,8 +47,8 @@ pub fn lines_of_the_first_reader(
     listener.end(alloc, before)
 }
 
-/// Each reader hears through its own ether, by its own generator (readers share one generator), and in the order of the tape (pairs
-/// heard in the other order); where memory runs out no session is told (out of memory told as heard).
+/// Each reader hears through its own ether, by its own generator (readers share one generator), and in the order of the tape (pairs heard in the
+/// other order). Out of memory, no session is answered (out of memory told as heard).
 pub fn lossy_ethers_heard_together<T: Threads + Sync>(
     threads: &T,
     alloc: Global,
@@ -64,8 +64,7 @@ pub fn lossy_ethers_heard_together<T: Threads + Sync>(
     Ok(sessions)
 }
 
-/// Readers who hear a piece side by side hear all of it in its order, or memory ran out for one of them (out of memory in a
-/// piece told as done).
+/// Readers who hear a piece side by side hear all of it in its order, or one of them is out of memory (out of memory in a piece told as done).
 pub fn piece_heard_in_two_orders<T: Threads + Sync>(
     readers: &mut Together,
     threads: &T,

@@ -30,7 +30,7 @@ pub fn another_update_of_the_updater(
     Ok(())
 }
 
-/// A piece has the buckets of its own cycles alone, whatever the mast had before.
+/// A piece has only the buckets of its own cycles, regardless of what the mast had before.
 pub fn mast_not_emptied(
     run: &mut PieceRun,
     alloc: Global,
@@ -46,7 +46,7 @@ pub fn mast_not_emptied(
     Ok(())
 }
 
-/// A piece has as many cycles as it is to have, and no more (piece goes on past its cycles).
+/// A piece has exactly as many cycles as it is to have (piece continues past its cycles).
 pub fn piece_ends_early(
     run: &mut PieceRun,
     alloc: Global,

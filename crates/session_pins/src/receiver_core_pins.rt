@@ -20,7 +20,7 @@ use item_catalog::Deck;
 use receiver_core::{Fed, Receiver};
 use std::alloc::Global;
 
-/// What is no bucket is refused with its own fault, and changes that count alone (refused bucket moves now).
+/// What is no bucket is refused with its own fault, and changes only that count (refused bucket moves now).
 pub fn every_fault_told_as_shape(
     receiver: &mut Receiver,
     heard: &Result<BucketView<'_>, BucketFault>,
@@ -33,7 +33,7 @@ pub fn every_fault_told_as_shape(
     receiver.hear(heard)
 }
 
-/// Where the first item of a query is held, the second is wanted.
+/// If the first item of a query is held, the second is wanted.
 pub fn held_item_wanted_again(receiver: &Receiver) -> Option<u16>
     requires { receiver.now ≡ asker_in (air_by FMatrix) (holding 1) }
     ensures { result ≡ Some 1 }
@@ -41,7 +41,7 @@ pub fn held_item_wanted_again(receiver: &Receiver) -> Option<u16>
     receiver.wanted()
 }
 
-/// Under R-Matrix a read of an older cycle than the held one comes too late, by one cycle too (one cycle older not late).
+/// Under R-Matrix a read of an older cycle than the held one comes too late, even by one cycle (one cycle older not late).
 pub fn late_read_opened(receiver: &mut Receiver, heard: &Result<BucketView<'_>, BucketFault>) -> Fed
     requires receiver { receiver.old ≡ asker_in (air_by RMatrix) (holding 3) }
     requires heard { heard.now ≡ Ok (bucket 2 1 (Vector 1 20 (0 ∷ 0 ∷ []))) }
@@ -94,7 +94,7 @@ pub fn cache_by_rate(alloc: Global, deck: &Deck, plans: &Plans) -> Result<Receiv
     Ok(receiver)
 }
 
-/// Where the program changes over, the copies are put in the new order before the read is offered: item 1 is worth more from then on.
+/// When the program changes, the copies are put in the new order before the read is offered: item 1 is worth more from then on.
 pub fn old_order_kept(receiver: &mut Receiver, heard: &Result<BucketView<'_>, BucketFault>) -> Fed
     requires receiver { receiver.old ≡ asking 1 (keeping_one 1 (heard_read 0 1 10 (0 ∷ 0 ∷ []))) }
     requires heard { heard.now ≡ Ok changed_bucket }
@@ -104,7 +104,7 @@ pub fn old_order_kept(receiver: &mut Receiver, heard: &Result<BucketView<'_>, Bu
     receiver.hear(heard)
 }
 
-/// An older bucket's read too is offered by the order of the newest heard cycle, in which the kept copy is worth more.
+/// The read of an older bucket is also offered by the order of the newest heard cycle, in which the kept copy is worth more.
 pub fn order_by_own_cycle(
     receiver: &mut Receiver,
     heard: &Result<BucketView<'_>, BucketFault>,
@@ -117,7 +117,7 @@ pub fn order_by_own_cycle(
     receiver.hear(heard)
 }
 
-/// A bucket is judged by the edition of its own cycle, also where the program has changed over since (judged by the newest edition).
+/// A bucket is judged by the edition of its own cycle, even if the program has changed since (judged by the newest edition).
 pub fn old_bucket_foreign(receiver: &Receiver, heard: &BucketView<'_>) -> bool
     requires receiver { receiver.now ≡ asking 0 (keeping_one 2 (heard_read 1 2 20 (0 ∷ 0 ∷ []))) }
     requires heard { heard.now ≡ bucket 1 0 (Column 0 10 (0 ∷ 0 ∷ [])) }

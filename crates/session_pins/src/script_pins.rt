@@ -16,8 +16,8 @@ use scripts::{AiredScript, Discard, PieceSink, air_script};
 use std::alloc::Global;
 use std::thread::Threads;
 
-/// A script is aired to its end, here in two pieces, of which the second has one commit (last part left out); and its history is told
-/// (another history at the end). Each bucket is heard once (piece heard twice).
+/// A script is aired to its end, here in two pieces, of which the second has one commit (last part left out), and its history is answered (another
+/// history at the end). Each bucket is heard once (piece heard twice).
 pub fn history_left_out_of_the_report<T: Threads + Sync>(
     threads: &T,
     alloc: Global,
@@ -32,7 +32,7 @@ pub fn history_left_out_of_the_report<T: Threads + Sync>(
     Ok(aired)
 }
 
-/// The last piece is heard as each other is: here it is the only one.
+/// The last piece is heard like each other one: here it is the only one.
 pub fn last_piece_not_heard<T: Threads + Sync>(
     threads: &T,
     alloc: Global,

@@ -1,4 +1,4 @@
-//! Pins of `file_sessions` and `piece_sessions`: a tape of two records that is read by pieces of 40 bytes, so that the second record is divided.
+//! Pins of `file_sessions` and `piece_sessions`: a tape of two records, read in pieces of 40 bytes, so that the second record is divided.
 #![tactic(auto)]
 
 ghost use Rattle.std.specs.Prelude.{◌≡◌, [], ◌∷◌, IfErr, IfOk, MatchResult, Some};
@@ -16,7 +16,7 @@ use listeners::Sessions;
 use std::alloc::Global;
 use std::thread::Threads;
 
-/// A whole tape is heard, or its file can't be read, or memory runs out: it is not cut.
+/// A whole tape is heard, or its file can't be read, or the call is out of memory: it is not cut.
 pub fn always_a_cut_tape<T: Threads + Sync, S: Shelf>(
     threads: &T,
     alloc: Global,
@@ -31,8 +31,8 @@ pub fn always_a_cut_tape<T: Threads + Sync, S: Shelf>(
     file_sessions(threads, alloc, shelf, name, planned)
 }
 
-/// The record that a piece's end divides is put together again (divided record lost), and each record is heard (records of a piece
-/// lost, last piece left out), and heard once (records heard again). A tape may be as long as its limit (tape at its limit refused).
+/// The record that a piece's end divides is put together again (divided record lost), and each record is heard (records of a piece lost, last piece
+/// left out), and heard once (records heard again). A tape may be as long as its limit (tape at its limit refused).
 pub fn carried_rest_forgotten<T: Threads + Sync, S: Shelf>(
     threads: &T,
     alloc: Global,

@@ -1,4 +1,4 @@
--- Events as entries, and what a list of entries that goes on from a seen one says of the events.
+-- Events as entries, and what a list of entries that continues a seen one says of the events.
 use Rattle.std.proofs.Common.{◌≡◌, ℕ, Bool, true, false, cond, List, [], ◌∷◌, ◌++◌, length, take, drop, All, refl, sym, ◌∙◌, ap, subst, inl, inr, arith}
 use Rattle.std.specs.Prelude.{count_by, Contains}
 use Rattle.std.specs.List.{list_any}
@@ -42,7 +42,7 @@ pub maker_start : (m : ℕ) → maker m Start ≡ m
 unfolding maker
 maker_start m = refl
 
--- ---- going on
+-- ---- continuing a list
 
 -- Entries of others have no event that the number's pass makes.
 foreign_count : (m number : ℕ) (own : Event → Bool) → ((e : Event) → own e ≡ true → maker m e ≡ number) → (F : List Event) → Foreign (number ∷ []) (event_entries m F) → count_by own F ≡ 0
@@ -55,7 +55,7 @@ foreign_count m number own makes (e ∷ F) h =
       | inr other ↦ (let none = cond-false {A = ℕ} (own e) 1 0 other in omega (arith, sum_by-cons (λ x. cond (own x) 1 0) e F))
     ]
 
--- A list that goes on from the seen entries by those of others goes on without events that the pass makes.
+-- A list that continues the seen entries by those of others continues without events that the pass makes.
 pub goes_on : (m number : ℕ) (own : Event → Bool) → ((e : Event) → own e ≡ true → maker m e ≡ number) → (seen : List (ℕ × Event)) (G : List Event) →
     Continues (number ∷ []) seen (event_entries m G) → GoesOnWithout own (events_of seen) G
 goes_on m number own makes seen G c =
@@ -69,7 +69,7 @@ goes_on m number own makes seen G c =
 pub goes_nowhere : (own : Event → Bool) (G : List Event) → GoesOnWithout own G G
 goes_nowhere own G = ([], sym (append-nil G), refl)
 
--- So it has as many of them.
+-- A history that continues without an updater's commits has the same number of them.
 pub count_same : (own : Event → Bool) (seen later : List Event) → GoesOnWithout own seen later → count_by own later ≡ count_by own seen
 count_same own seen later g = ap (count_by own) g.1 ∙ (let both = sum_by-append (λ x. cond (own x) 1 0) seen g.0 in let none = g.2 in omega arith)
 
@@ -93,7 +93,7 @@ unfolding since_start
 since_all P [] h = h
 since_all P (e ∷ G) h = cond_all P (list_any is_start (e ∷ G)) (since_start G) (e ∷ G) (since_all P G (All-tail P e G h)) h
 
--- What comes after the last start fits, with one more start.
+-- What comes after the last start, with one more start, fits.
 pub fresh_fits : (updaters : ℕ) (values : List ℕ) (G fresh : List Event) → fresh ≡ since_start G ++ Start ∷ [] → All (EventFits updaters (length values)) G → All (EventFits updaters (length values)) fresh
 fresh_fits updaters values G fresh is fits = let fit = EventFits updaters (length values) in
     subst (All fit) (sym is) (All-push fit (since_start G) Start (since_all fit G fits) (start_fits updaters (length values)))

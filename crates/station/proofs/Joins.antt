@@ -1,4 +1,4 @@
--- Passes that were joined to one: it stands for their numbers, and has seen what goes on from what they had seen.
+-- Passes that were joined to one: it has their numbers, and what it has seen continues what they had seen.
 use Rattle.std.proofs.Common.{◌≡◌, ℕ, List, [], ◌∷◌, ◌++◌, length, get_or, All, refl, sym, ap, ◌∙◌, subst, arith}
 use Rattle.std.specs.Prelude.{Contains}
 use Rattle.std.proofs.lemmas.List.{get_or_push, get_or_append_left, length_push}
@@ -10,11 +10,11 @@ use Rattle.station.specs.EventEntries.{events_of}
 use Rattle.station.specs.PassStates.{PassState, numbers_of}
 use Rattle.station.specs.PassFields.{Inner}
 
--- The pass stands for p's number, and has seen entries that go on, without p's own, from those that p had seen.
+-- The pass has p's number, and has seen entries that continue, without p's own, those that p had seen.
 abbrev pub Joined : Inner → PassState → Type 0
 Joined first p = Contains first.numbers p.number × ((entries : List (ℕ × Event)) × (events_of entries ≡ p.seen) × Continues (p.number ∷ []) entries first.seen)
 
--- Going on twice, where the second pass has the first one's numbers.
+-- Two steps of continuing are one, if the second pass has the first one's numbers.
 pub goes_through : (ns ms : List ℕ) (a b c : List (ℕ × Event)) → ((m : ℕ) → Contains ns m → Contains ms m) → Continues ns a b → Continues ms b c → Continues ns a c
 goes_through ns ms a b c sub p q = more_goes_on ns a b q.0 c q.1 (foreign_part ms ns q.0 sub q.2) p
 

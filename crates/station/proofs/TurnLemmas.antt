@@ -1,4 +1,4 @@
--- One turn of a pass: what is then known of the pass, and how the history went on.
+-- One turn of a pass: what is known of the pass after it, and how the history continued.
 use Rattle.std.proofs.Common.{rules, ◌≡◌, ℕ, ◌+◌, List, [], ◌∷◌, length, All, refl, sym, ◌∙◌, ap, subst}
 use Rattle.std.specs.Prelude.{Result, Ok, Err, IsErr, MatchResult, Some}
 use Rattle.turnstile.specs.PassEntries.{Continues}
@@ -14,7 +14,7 @@ use Rattle.station.specs.PassStates.{PassState, new_pass}
 use Rattle.station.specs.PassFields.{Base, Inner, base_or, base_in, pass_in, IsPass}
 use Rattle.station.proofs.EntryLemmas.{events_back, commits_make, starts_make, goes_on}
 
--- The pass before a turn and after it, and the core that the turn handed out and that which it put back.
+-- The pass before a turn and after it, and the core that the turn took and the one that it gave back.
 pub record Turned (before after : Inner) (old new : CoreState) : Type 0 where
   pub base : before.base ≡ Some (old.values, old.updaters)
   pub list : Continues before.numbers before.seen (event_entries old.updaters old.events)
@@ -43,19 +43,19 @@ after_turn number before after old new h t =
       seen,
     )
 
--- What an updater's turn was handed has no further commit of it.
+-- The core of an updater's turn has no commit of that updater that its pass hasn't seen.
 pub no_commit : (by : ℕ) (pass : Inner) (core : CoreState) → IsPass pass by → Continues pass.numbers pass.seen (event_entries core.updaters core.events) →
     GoesOnWithout (is_by by) (events_of pass.seen) core.events
 no_commit by pass core h list = goes_on core.updaters by (is_by by) (commits_make core.updaters by) pass.seen core.events
     (subst (λ ns. Continues ns pass.seen (event_entries core.updaters core.events)) h.numbers list)
 
--- What the conductor's turn was handed has no further start.
+-- The core of the conductor's turn has no start that its pass hasn't seen.
 pub no_start : (pass : Inner) (core : CoreState) → IsPass pass (base_in pass).1 → pass.base ≡ Some (core.values, core.updaters) →
     Continues pass.numbers pass.seen (event_entries core.updaters core.events) → GoesOnWithout is_start (events_of pass.seen) core.events
 no_start pass core h is list = goes_on core.updaters core.updaters is_start (starts_make core.updaters) pass.seen core.events
     (subst (λ ns. Continues ns pass.seen (event_entries core.updaters core.events)) (h.numbers ∙ ap (λ (b : Base). b.1 ∷ []) (base_is pass core is)) list)
 
--- What holds however a call ended.
+-- What holds regardless of how a call ended.
 pub either_way : {T E : Type 0} (R : Type 0) (P : T → Type 0) (Q : E → Type 0) (r : Result T E) → ((x : T) → P x → R) → ((e : E) → Q e → R) → MatchResult r P Q → R
 either_way R P Q (Ok x) f g h = f x h
 either_way R P Q (Err e) f g h = g e h
@@ -68,10 +68,10 @@ refused P Q (Err e) h q = q
 -- ---- new passes
 
 -- A pass of a new turnstile round an empty core keeps what a pass keeps, and has seen nothing.
-pub fresh : (gate : TurnstileId) (n k : ℕ) (core : CoreState) (pass : Inner) → core.events ≡ [] → n ≡ core.updaters + 1 →
-    pass ≡ newcomer gate n (core.values, core.updaters) (event_entries core.updaters core.events) k →
+pub fresh : (turnstile : TurnstileId) (n k : ℕ) (core : CoreState) (pass : Inner) → core.events ≡ [] → n ≡ core.updaters + 1 →
+    pass ≡ newcomer turnstile n (core.values, core.updaters) (event_entries core.updaters core.events) k →
     IsPass pass k × (base_in pass ≡ (core.values, core.updaters)) × (events_of pass.seen ≡ [])
-fresh gate n k core pass none count e =
+fresh turnstile n k core pass none count e =
     let is : base_in pass ≡ (core.values, core.updaters) = ap base_in e in
     let seen : events_of pass.seen ≡ [] = ap (λ p. events_of p.seen) e ∙ events_back core.updaters core.events ∙ none in (
       record {
@@ -89,9 +89,9 @@ same_state : (g : TurnstileId) (v w : List ℕ) (m n k : ℕ) (F G : List Event)
     ◌≡◌ {A = PassState} (record { station = g; values = v; updaters = m; number = k; seen = F }) (record { station = g; values = w; updaters = n; number = k; seen = G })
 same_state g v w m n k F G p q r = cc
 
--- As contracts see it, it is the deck's new pass.
-pub as_new : (gate : TurnstileId) (deck : Deck) (n k : ℕ) (core : CoreState) (pass : Inner) → core.events ≡ [] → core.values ≡ values_in deck → core.updaters ≡ length deck.updates →
-    pass ≡ newcomer gate n (core.values, core.updaters) (event_entries core.updaters core.events) k → pass_in pass k ≡ new_pass gate deck k
-as_new gate deck n k core pass none values count e =
-    ap (λ p. pass_in p k) e ∙ same_state gate core.values (values_in deck) core.updaters (length deck.updates) k (events_of (event_entries core.updaters core.events)) [] values count
+-- As contracts see it, a new pass is the deck's new pass.
+pub as_new : (turnstile : TurnstileId) (deck : Deck) (n k : ℕ) (core : CoreState) (pass : Inner) → core.events ≡ [] → core.values ≡ values_in deck → core.updaters ≡ length deck.updates →
+    pass ≡ newcomer turnstile n (core.values, core.updaters) (event_entries core.updaters core.events) k → pass_in pass k ≡ new_pass turnstile deck k
+as_new turnstile deck n k core pass none values count e =
+    ap (λ p. pass_in p k) e ∙ same_state turnstile core.values (values_in deck) core.updaters (length deck.updates) k (events_of (event_entries core.updaters core.events)) [] values count
     (events_back core.updaters core.events ∙ none)

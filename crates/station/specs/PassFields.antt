@@ -15,19 +15,19 @@ Base = List ℕ × ℕ
 abbrev pub Inner : Type 0
 Inner = TurnstilePass Event Base
 
--- The base that the pass has.
+-- The given base, or an empty one.
 abbrev pub base_or : Option Base → Base
 base_or None = ([], 0)
 base_or (Some base) = base
 
--- The base that a pass has, of what it has seen.
+-- The base of a turnstile's pass, or an empty one.
 abbrev pub base_in : Inner → Base
 base_in pass = base_or pass.base
 
 -- The pass of the number.
 abbrev pub pass_in : Inner → ℕ → PassState
 pass_in pass number = record {
-  station = pass.gate;
+  station = pass.turnstile;
   values = (base_in pass).0;
   updaters = (base_in pass).1;
   number = number;
@@ -38,8 +38,8 @@ pass_in pass number = record {
 abbrev pub conductor_in : Inner → PassState
 conductor_in pass = pass_in pass (base_in pass).1
 
--- It is in no turn, has one number and a base, its turnstile has a pass for each updater and the conductor, and each event
--- that it has seen fits.
+-- The pass is in no turn, has one number and a base, its turnstile has a pass for each updater and the conductor, and each event that it has seen
+-- fits.
 pub record IsPass (pass : Inner) (number : ℕ) : Type 0 where
   pub outside : pass.turn ≡ None
   pub numbers : pass.numbers ≡ number ∷ []

@@ -1,7 +1,7 @@
 //! What is done through a pass: a commit, and the start of a cycle.
 //!
-//! Each adds its one event, or answers `NoMemory`. What the pass has then seen is what it had seen, then events of other
-//! passes, then its own event where one was added.
+//! Each adds its one event, or answers `NoMemory`. The pass has then seen what it had seen, then events of other passes, then its own event if one
+//! was added.
 ghost use Rattle.std.specs.Prelude.{◌≡◌, ◌<◌, ◌-◌, ◌^◌, List, [], ◌∷◌, ◌++◌, length, All, MatchResult, OnOk};
 ghost use Rattle.air_history.specs.declared.histories.Event.{Event};
 ghost use Rattle.air_history.specs.declared.histories.Event.TheVariants.{Commit, Start};
@@ -74,7 +74,7 @@ fn add_start(core: &mut Core, alloc: Global, fresh: &mut Vec<Event>) -> Result<u
 }
 
 impl Station {
-    /// Makes the commit, with a receipt that has its room.
+    /// Makes the commit. The receipt has room for it.
     fn place<R: Wait>(
         &self,
         wait: &R,
@@ -100,9 +100,8 @@ impl Station {
         Ok(())
     }
 
-    /// Makes one commit of the pass's updater, at one place of the history, and answers what it did there. After `NoMemory`
-    /// the pass has seen, beyond what it had, events of others alone. `Update::fits` tells whether the update fits, `made` how
-    /// many commits the pass made.
+    /// Makes one commit of the pass's updater, at one place of the history, and answers what it did there. After `NoMemory` the pass has newly seen
+    /// only events of others. `Update::fits` is the test whether the update fits, `made` gives the number of commits that the pass made.
     pub fn commit<R: Wait>(
         &self,
         wait: &R,
@@ -126,9 +125,9 @@ impl Station {
         Ok(receipt)
     }
 
-    /// Starts one cycle, at one place of the history, answers its number, and puts the events since the start before into the
-    /// empty list, with the new start. After `NoMemory` the list is empty, and the pass has seen events of others alone. `started`
-    /// tells how many starts the pass made.
+    /// Starts one cycle, at one place of the history, answers its number, and puts the events since the start before, and the new start, into the
+    /// empty list. After `NoMemory` the list is empty, and the pass has newly seen only events of others. `started` gives the number of starts that
+    /// the pass made.
     pub fn start_cycle<R: Wait>(
         &self,
         wait: &R,

@@ -19,7 +19,7 @@ fn finish(
     mut first: Pass<StationCore>,
     mut passes: Vec<UpdaterPass>,
 ) -> StationCore
-    requires own { (first.gate ≡ station) × All (λ (p : PassState). p.station ≡ station) passes.items }
+    requires own { (first.turnstile ≡ station) × All (λ (p : PassState). p.station ≡ station) passes.items }
     requires first { IsPass first (base_in first).1 }
     requires all { (by : ℕ) → by < (base_in first).1 → Contains (numbers_of passes.items) by }
     ensures base { first.base ≡ Some (result.core.values, result.core.updaters) }
@@ -35,9 +35,8 @@ fn finish(
 }
 
 impl Station {
-    /// The history, for all passes. It begins with what each pass has seen, and what follows has no commit of that updater,
-    /// and for the conductor no start: so each call that was made through a pass stands in it once. `UpdaterPass::by` is the
-    /// test for `all`.
+    /// The history, for all passes. It begins with what each pass has seen; what follows has no commit of that updater, and for the conductor no
+    /// start. So each call made through a pass is in it once. `UpdaterPass::by` is the test for `all`.
     pub fn close(self, passes: Vec<UpdaterPass>, conductor: ConductorPass) -> History
         requires own { (conductor.station ≡ self) × All (λ (p : PassState). p.station ≡ self) passes.items }
         requires all { (by : ℕ) → by < conductor.updaters → Contains (numbers_of passes.items) by }

@@ -1,11 +1,11 @@
-//! The value behind a station's turnstile.
+//! The value behind the turnstile of a station.
 use air_base::Values;
 use air_history::Event;
 use turnstile::Chronicle;
 use update_commit::Core;
 
-/// A core, whose events are the entries, each beside the number of the pass that makes such an event. The base is the first
-/// values and the number of updaters.
+/// A core. Its events are the turnstile's entries, each with the number of the pass that makes such an event. The base is the first values and the
+/// number of updaters.
 #[derive(Drop)]
 pub struct StationCore {
     pub core: Core,

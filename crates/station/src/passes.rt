@@ -38,14 +38,14 @@ impl UpdaterPass {
         self.by
     }
 
-    /// How many commits it made.
+    /// The number of commits that it made.
     pub fn made(&self) -> u32
         ensures { result ≡ count_made self.now.number self.now.seen }
     {
         self.made
     }
 
-    /// Hands to a caller's proof that each event that it has seen fits; it does nothing.
+    /// Gives a caller's proof the fact that each event that the pass has seen fits; it does nothing.
     pub fn shows_events_fit(&self)
         ensures { All (EventFits self.now.updaters (length self.now.values)) self.now.seen }
     {
@@ -72,14 +72,14 @@ impl Model for ConductorPass {
 }
 
 impl ConductorPass {
-    /// How many cycles it started.
+    /// The number of cycles that it started.
     pub fn started(&self) -> u32
         ensures { result ≡ starts self.now.seen }
     {
         self.started
     }
 
-    /// Hands to a caller's proof that each event that it has seen fits; it does nothing.
+    /// Gives a caller's proof the fact that each event that the pass has seen fits; it does nothing.
     pub fn shows_events_fit(&self)
         ensures { All (EventFits self.now.updaters (length self.now.values)) self.now.seen }
     {

@@ -13,7 +13,7 @@ use std::marker::Model;
 use turnstile::{Pass, Turnstile};
 use update_commit::Core;
 
-/// One history, which its passes make. In a clause it is which one it is.
+/// One history, which its passes make. In clauses its value is its turnstile's number.
 #[derive(Drop)]
 pub struct Station {
     pub(crate) turnstile: Turnstile<StationCore>,
@@ -41,7 +41,7 @@ fn first_values(alloc: Global, deck: &Deck) -> Result<Vec<u64>, NoMemory>
     Ok(values)
 }
 
-/// Makes each pass that of the updater of its number.
+/// Makes each pass that of the updater with its number.
 fn hand_out(all: Vec<Pass<StationCore>>, passes: &mut Vec<UpdaterPass>)
     requires room { (passes.old.items ≡ []) × (length all.items ≤ vec_capacity passes.old) }
     requires few { length all.items < 2 ^ 32 }
@@ -57,8 +57,7 @@ fn hand_out(all: Vec<Pass<StationCore>>, passes: &mut Vec<UpdaterPass>)
 }
 
 impl Station {
-    /// A station over the deck's values, with a pass for each of its updaters, in their order, and one for the conductor. None
-    /// has seen an event.
+    /// A station over the deck's values, with a pass for each of its updaters, in their order, and one for the conductor. No pass has seen an event.
     pub fn new(
         alloc: Global,
         deck: &Deck,

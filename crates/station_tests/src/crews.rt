@@ -14,7 +14,7 @@ use std::sync::Wait;
 use std::test::Fail;
 use std::thread::{Threads, join_mut};
 
-/// The worker of a pass, with the first update of its updater; none where the deck has none that fits.
+/// The worker of a pass, with the first update of its updater, or `None` if the deck has none that fits.
 fn hire(
     alloc: Global,
     station: &Station,
@@ -38,7 +38,7 @@ fn hire(
     }
 }
 
-/// A station of the deck with its conductor and its two updaters; none where the deck has not two.
+/// A station of the deck with its conductor and its two updaters, or `None` if the deck doesn't have exactly two.
 pub fn open(
     alloc: Global,
     text: &[u8],
@@ -131,7 +131,7 @@ fn has_number(passes: &[UpdaterPass], by: u32) -> bool
     false
 }
 
-/// Whether each number below that of the updaters has a pass.
+/// Whether each updater's number has a pass.
 fn is_complete(passes: &[UpdaterPass], updaters: u32) -> bool
     ensures { IsTrue result → (by : ℕ) → by < updaters → Contains (numbers_of passes.now) by }
 {
@@ -143,11 +143,11 @@ fn is_complete(passes: &[UpdaterPass], updaters: u32) -> bool
     true
 }
 
-/// How many events and starts a history has, how many receipts each updater got, how many starts were answered to the conductor,
-/// and the first two values at the history's end, or the first place that was answered otherwise than by a core.
+/// The number of events and of starts of a history, and the number of receipts of each updater and of starts answered to the conductor. Then the
+/// first two values at the history's end, or the first place that was answered otherwise than by a core.
 pub type HistoryCounts = (u64, u32, [usize; 3], Result<[u64; 2], usize>);
 
-/// Closes the station, and replays its history from these values; none where a pass is missing.
+/// Closes the station, and replays its history from these values; `None` if a pass is missing.
 pub fn close(
     alloc: Global,
     station: Station,

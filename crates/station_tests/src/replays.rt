@@ -1,4 +1,4 @@
-//! A closed station's history once more, event by event on a core: what the station answered has to be what the core answers.
+//! A closed station's history once more, event by event on a core: the station must have answered what the core answers.
 ghost use Rattle.std.specs.Prelude.{◌≡◌, ◌<◌, ◌≤◌, ◌+◌, length};
 
 use crate::workers::StartAnswer;
@@ -7,7 +7,7 @@ use air_history::{Event, History};
 use std::alloc::Global;
 use update_commit::{Core, Receipt};
 
-/// Whether the receipt at this place says just this.
+/// Whether the receipt at this place says exactly this.
 pub fn says(
     receipts: &[Receipt],
     place: usize,
@@ -27,7 +27,7 @@ pub fn says(
     }
 }
 
-/// An event: the start of a cycle, or a commit, of which updater and with which number.
+/// An event: the start of a cycle, or a commit with its updater and number.
 #[derive(Clone, Copy, PartialEq, Eq)]
 pub enum Mark {
     Start,
@@ -42,7 +42,7 @@ fn mark_of(event: &Event) -> Mark {
     }
 }
 
-/// Whether the start at this place gave just this number and these events.
+/// Whether the start at this place gave exactly this number and these events.
 pub fn gives(starts: &[StartAnswer], place: usize, number: u32, marks: &[Mark]) -> bool {
     let Some(started) = starts.get(place) else {
         return false;
@@ -103,7 +103,7 @@ fn is_replayed(
     Ok(says(told, *seq as usize, own.number, own.cycle, read, written))
 }
 
-/// Replays the history on a core of these values and two updaters. The first two values then, or the first place at which the
+/// Replays the history on a core of these values and two updaters. The answer is the first two values at the end, or the first place at which the
 /// station answered otherwise.
 pub fn replay(
     alloc: Global,

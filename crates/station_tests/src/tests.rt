@@ -1,7 +1,7 @@
 //! Calls one after another with answers by hand, and all side by side.
 //!
-//! At the end the closing history has each call once, in its caller's order; each receipt has its place there and says what a core
-//! answers there, and each start gave its number and the events since the start before, with itself.
+//! At the end the closed history has each call once, in its caller's order. Each receipt has its place there and says what a core answers there. Each
+//! start gave its number and the events since the start before, including itself.
 
 use crate::crews::{HistoryCounts, close, open, work_all};
 use crate::replays::Mark::{Commit, Start};
@@ -17,12 +17,12 @@ use std::thread::Threads;
 const CALLED: &[u8] =
     b"item,0,10,1\nitem,1,20,1\ndisk,2,1\nupdate,0,0,0=0+1\nupdate,1,0 1,1=0+5 0=1-2\n";
 
-/// How many commits each updater made, and how many cycles the conductor started.
+/// The number of commits that each updater made, and the number of cycles that the conductor started.
 fn made(one: &Worker, two: &Worker, conductor: &Conductor) -> [u32; 3] {
     [one.pass.made(), two.pass.made(), conductor.pass.started()]
 }
 
-/// Makes calls one after another on one thread; what is found then, and whether each was answered as by hand.
+/// Makes calls one after another on one thread. The answer is what is found then, and whether each call was answered as computed by hand.
 fn call_each<R: Wait>(
     wait: &R,
     alloc: Global,

@@ -1,4 +1,4 @@
-//! An updater and a conductor at work: each has its pass, and what it was answered.
+//! An updater and a conductor at work: each has its pass, and the answers that it got.
 ghost use Rattle.std.specs.Prelude.{◌≡◌};
 ghost use Rattle.station.specs.PassStates.{with_seen};
 ghost use Rattle.station_tests.specs.Workers.{FitsStation};
@@ -17,7 +17,7 @@ pub struct Worker {
     pub receipts: Vec<Receipt>,
 }
 
-/// What the start of a cycle gave: the cycle's number, and the events since the start before it, with the start itself.
+/// What the start of a cycle gave: the cycle's number, and the events since the start before it, including the start itself.
 #[derive(Drop)]
 pub struct StartAnswer {
     pub number: u32,
@@ -32,7 +32,7 @@ pub struct Conductor {
 }
 
 impl Worker {
-    /// Makes this number of commits, and keeps their receipts: fewer where memory ends.
+    /// Makes this number of commits, and keeps their receipts; fewer, once out of memory.
     pub fn commit_all<R: Wait>(&mut self, wait: &R, alloc: Global, station: &Station, commits: u32)
         requires ready { FitsStation station.now self.old.pass self.old.update }
         ensures ready { FitsStation station.now self.new.pass self.new.update }
@@ -52,7 +52,7 @@ impl Worker {
 }
 
 impl Conductor {
-    /// Starts this number of cycles, and keeps what the starts give: fewer where memory ends.
+    /// Starts this number of cycles, and keeps what the starts give; fewer, once out of memory.
     pub fn start_all<R: Wait>(&mut self, wait: &R, alloc: Global, station: &Station, cycles: u32)
         requires ready { self.old.pass.station ≡ station.now }
         ensures pass { self.new.pass ≡ with_seen self.old.pass self.new.pass.seen }

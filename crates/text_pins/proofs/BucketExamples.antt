@@ -1,9 +1,9 @@
--- Buckets of a deck of one item, and one of a late cycle that tells of no item.
+-- Buckets of a deck of one item, and one of a late cycle that has no item.
 use Rattle.std.specs.Prelude.{◌≡◌, ℕ, List, [], ◌∷◌, ◌++◌, Ok, Err, refl}
 use Rattle.air_model.specs.declared.bucket.BucketFault.TheVariants.{Shape}
 use Rattle.air_model.specs.Buckets.{Column, Idle, body_at, bucket_at, entries_at, entry_count, entry_told, is_entry, is_placed, is_shaped, raw_entries, reading}
 
--- What a bucket of this kind and count in cycle 1 begins with, in slot 0 of edition 0.
+-- The first bytes of a bucket of this kind and count in cycle 1, in slot 0 of edition 0.
 abbrev begins_with : ℕ → ℕ → List ℕ
 begins_with kind count = 0x41 ∷ 0x44 ∷ 1 ∷ kind ∷ 0 ∷ 0 ∷ 0 ∷ count ∷ 0 ∷ 0 ∷ 0 ∷ 1 ∷ 0 ∷ 0 ∷ []
 

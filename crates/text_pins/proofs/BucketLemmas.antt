@@ -1,4 +1,4 @@
--- Small buckets are in range as they are told and have few bytes, and what is written of them is known.
+-- Small buckets are in range with capped entries and have few bytes, and what is written of them is known.
 use Rattle.std.proofs.Common.{◌≡◌, ◌≤◌, ◌<◌, ◌++◌, ◌∷◌, ◌∙◌, ℕ, List, [], length, drop, inl, inr, refl, sym, subst, arith}
 use Rattle.std.proofs.lemmas.List.Elements.{All-from_recursion}
 use Rattle.air_history.specs.Ages.{capped}

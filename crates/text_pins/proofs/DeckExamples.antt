@@ -1,4 +1,4 @@
--- The smallest deck, what is no query, and what is said of a reader or an item that a deck doesn't have.
+-- The smallest deck, what is no query, and what holds of a reader or an item that a deck doesn't have.
 use Rattle.std.proofs.Common.{◌≡◌, ◌<◌, ◌≤◌, ◌^◌, false, true, [], ◌∷◌, All, refl, inl, sum_by, arith}
 use Rattle.std.proofs.lemmas.List.Elements.{All-nil, All-from_recursion}
 use Rattle.air_base.specs.declared.limits.TheConstants.{MOST_CYCLES}

@@ -1,4 +1,4 @@
--- The faults of short texts, computed, and that a reader of decks answers no other.
+-- The faults of short texts, computed; a reader of decks gives no other fault.
 use Rattle.std.proofs.Common.{◌≡◌, ◌+◌, ◌∙◌, ℕ, List, [], ◌∷◌, Result, Ok, Err, IfOk, IfErr, ap, arith, inl, inr, length, refl, subst, sym}
 use Rattle.std.specs.Prelude.{codes}
 use Rattle.csv.proofs.OnLiterals.{csv_on_literals}

@@ -38,9 +38,9 @@ pub record AtLimits : Type 0 where
   own_item_undeclared : write_reaches 3 (to_three None) ≡ true
   ninth_disk : kinds (tests_of (replicate 8 (e.DeclaredDisk 1 None)) (e.DeclaredDisk 1 None)) ≡ 7 ∷ []
   reader_too_many : kinds (tests_of (replicate 64 (e.DeclaredReader 0 0 1)) (e.DeclaredReader 0 0 1)) ≡ 7 ∷ []
-  -- updater 16 has no number, and none of the sixteen commits too often
+  -- updater 16 has no number, and none of the sixteen commits too many updates
   seventeenth_updater : kinds (script_tests (λ by. 0) [] (Some 16 ∷ [])) ≡ 7 ∷ []
-  -- it is the new events whose updaters are judged
+  -- only the updaters of the new events are judged
   earlier_updater : kinds (script_tests (λ by. 1) (Some 16 ∷ []) []) ≡ []
 
 at_limits : AtLimits
@@ -76,7 +76,7 @@ first_of_all = record { a_query = refl; its_items = refl; a_reader = refl; a_scr
 
 pub record SettingWords : Type 0 where
   nothing_set : kinds (set_tests [] (setting.Number Loss 1)) ≡ []
-  -- one of those that were set is enough
+  -- it is enough to be one of those that were set
   set_among_others : kinds (set_tests (setting.Number Loss 3 ∷ setting.Policy RMatrix ∷ []) (setting.Number Loss 1)) ≡ 10 ∷ []
   policy_twice : kinds (set_tests (setting.Policy FMatrix ∷ []) (setting.Policy RMatrix)) ≡ 10 ∷ []
   letter : spelled_policy (codes "F") ≡ Some FMatrix

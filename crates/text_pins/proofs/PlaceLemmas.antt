@@ -1,4 +1,5 @@
--- The first faulty place and the least kind there, by the kinds of the places up to it: one or two at the place, and none before.
+-- The first faulty place and the least kind there, from the kinds at the places up to it: one or two at the place, and none
+-- before.
 use Rattle.std.proofs.Common.{◌≡◌, ◌<◌, ◌≤◌, ◌∷◌, ℕ, zero, suc, List, [], All, arith, refl}
 use Rattle.item_catalog.specs.FirstFaults.{IsFirstFault, NoneBefore}
 

@@ -1,4 +1,4 @@
--- Where tapes end: before a record, inside its length, inside its bytes, and behind it.
+-- Where tapes end: before a record, inside its length, inside its bytes, and after it.
 use Rattle.std.specs.Prelude.{◌≡◌, [], ◌∷◌, Some, true, false, refl}
 use Rattle.air_model.specs.Tapes.{ends_inside, read_from, tape_read}
 

@@ -1,11 +1,11 @@
--- What is answered of a text that spells no deck, and short texts of decks.
+-- What the answer is for a text that spells no deck, and short texts of decks.
 use Rattle.std.specs.Prelude.{◌≡◌, ◌⊎◌, ◌++◌, ℕ, List, [], ◌∷◌, Result, Err, codes}
 use Rattle.air_model.specs.Decks.{Deck, Replan}
 use Rattle.item_catalog.specs.declared.faults.DeckError.{DeckError}
 use Rattle.item_catalog.specs.declared.faults.DeckError.TheVariants.{Fault, NoMemory}
 use Rattle.text_pins.specs.SmallReports.{with_newline}
 
--- The answer is this fault, where there was memory.
+-- The answer is this fault, if there was memory.
 abbrev pub IsDeckFaultOrNoMemory : ℕ → ℕ → Result Deck DeckError → Type 0
 IsDeckFaultOrNoMemory row kind result = (result ≡ Err NoMemory) ⊎ (result ≡ Err (Fault (record { row = row; kind = kind })))
 
@@ -21,7 +21,7 @@ unknown_second = with_newline (codes "item,0,5,1") ++ with_newline (codes "items
 abbrev pub replanned_twice : List ℕ
 replanned_twice = with_newline (codes "replan,2,3,1") ++ with_newline (codes "replan,2,3,1")
 
--- Three items on one disk, and a replan that puts each on a disk of its own and says no frequency; the delta is set after it.
+-- Three items on one disk, and a replan that puts each on a disk of its own and gives no frequency; the delta is set after it.
 abbrev pub spread_over_three : List ℕ
 spread_over_three =
     with_newline (codes "item,0,10,3") ++ with_newline (codes "item,1,20,2") ++ with_newline (codes "item,2,30,1") ++ with_newline (codes "disk,3,1") ++ with_newline (codes "replan,3,1 1 1,- - -") ++ with_newline (codes "set,delta,1")

@@ -22,11 +22,11 @@ column_bytes = 0x41 ∷ 0x44 ∷ 1 ∷ 1 ∷ 0 ∷ 0 ∷ 0 ∷ 2 ∷ 0 ∷ 0 ∷
 abbrev pub aged : List ℕ → Bucket
 aged entries = record { version = 2; edition = 0; cycle = 300; slot = 0; body = Column 0 10 entries }
 
--- The bytes of one in the cycle of a high and a low byte, with these bytes after the head.
+-- The bytes of such a column in the cycle with this high and this low byte, with these bytes after the head.
 abbrev pub bytes_with_ages : ℕ → ℕ → List ℕ → List ℕ
 bytes_with_ages high low ages = 0x41 ∷ 0x44 ∷ 2 ∷ 1 ∷ 0 ∷ 0 ∷ 0 ∷ 2 ∷ 0 ∷ 0 ∷ high ∷ low ∷ 0 ∷ 0 ∷ 0 ∷ 0 ∷ 0 ∷ 0 ∷ 0 ∷ 0 ∷ 0 ∷ 0 ∷ 0 ∷ 0x0a ∷ ages
 
--- Of these bytes one is another.
+-- These bytes with one of them replaced.
 abbrev pub but : List ℕ → ℕ → ℕ → List ℕ
 but bytes place byte = take place bytes ++ byte ∷ drop (place + 1) bytes
 

@@ -9,7 +9,7 @@ use Rattle.air_model.specs.Reports.{Report}
 abbrev pub with_newline : List ℕ → List ℕ
 with_newline text = text ++ 10 ∷ []
 
--- Nothing is told.
+-- The report with no lines.
 abbrev pub empty_report : Report
 empty_report = record { history = []; verdicts = []; counts = []; glances = []; looks = [] }
 

@@ -19,7 +19,7 @@ pub fn cut_record_given<'a>(reader: &mut TapeReader<'a>) -> Result<Option<&'a [u
     reader.next()
 }
 
-/// A reader that met the cut stays there, so it answers the same again.
+/// A reader that met the cut stays there, so it gives the same answer again.
 pub fn reader_goes_on_after_a_cut<'a>(
     reader: &mut TapeReader<'a>,
 ) -> Result<Option<&'a [u8]>, TapeFault>
@@ -29,7 +29,7 @@ pub fn reader_goes_on_after_a_cut<'a>(
     reader.next()
 }
 
-/// The length of a record is told before its bytes.
+/// The length of a record comes before its bytes.
 #[tactic(auto, unfolding(air_model::specs::Tapes::record_bytes))]
 pub fn length_always_four(bytes: &[u8], out: &mut [u8]) -> usize
     requires bytes { bytes.now ≡ 7 ∷ [] }
@@ -59,7 +59,7 @@ pub fn size_without_the_entries(bucket: &Bucket<'_>) -> usize
     size_of(bucket)
 }
 
-/// Of a wrong version and a wrong kind the version is told.
+/// If both version and kind are wrong, the version is reported.
 #[tactic(auto, unfolding(air_model::specs::Buckets::reading))]
 pub fn faults_in_another_order<'a>(bytes: &'a [u8]) -> Result<BucketView<'a>, BucketFault>
     requires { bytes.now ≡ but (but idle_bytes 2 3) 3 3 }
@@ -79,7 +79,7 @@ pub fn loose_decoder_bytes_after_the_entries<'a>(
     decode(bytes)
 }
 
-/// An idle slot has no entries, however many items there are.
+/// An idle slot has no entries, for any number of items.
 #[tactic(auto, unfolding(air_model::specs::Buckets::reading, air_model::specs::Buckets::entry_count))]
 pub fn loose_decoder_idle_with_entries<'a>(bytes: &'a [u8]) -> Result<BucketView<'a>, BucketFault>
     requires { bytes.now ≡ idle_bytes ++ 0 ∷ 0 ∷ 0 ∷ 0 ∷ 0 ∷ 0 ∷ 0 ∷ 0 ∷ [] }
@@ -106,10 +106,10 @@ pub fn slot_read_from_the_item(view: &BucketView<'_>) -> u16
     view.slot()
 }
 
-// ---- version 2, whose entries are told by their ages
+// ---- version 2, whose entries are given by their ages
 
-/// In cycle 300 the age 254 tells the entry 46, and an entry 45 is told as 0. A cap one cycle late is no blunder: it gives the same bytes,
-/// since an age of 255 is the cap.
+/// In cycle 300 the age 254 gives the entry 46, and an entry 45 is written as 0. A cap one cycle late is no mistake: it gives
+/// the same bytes, since an age of 255 is the cap.
 #[tactic(auto, using(crate::proofs::BucketLemmas::aged_has_room))]
 pub fn cap_one_cycle_early(bucket: &Bucket<'_>, out: &mut [u8]) -> usize
     requires bucket { bucket_to_air bucket.now ≡ aged (46 ∷ 45 ∷ []) }
@@ -136,7 +136,7 @@ pub fn age_0_let_through<'a>(bytes: &'a [u8]) -> Result<BucketView<'a>, BucketFa
     decode(bytes)
 }
 
-/// The entry 0 is told by 255 alone, so no age is the cycle.
+/// Only 255 stands for the entry 0, so no age equals the cycle.
 pub fn age_equal_to_the_cycle<'a>(bytes: &'a [u8]) -> Result<BucketView<'a>, BucketFault>
     requires { bytes.now ≡ bytes_with_ages 0 3 (2 ∷ 3 ∷ []) }
     ensures { result ≡ Err BucketFault.Shape }

@@ -1,5 +1,5 @@
-//! These pins fix what `item_catalog` answers for short texts of decks: the fault that each has, by its record and its kind.
-//! They also fix the queries of a drill's deck, the updates of an updater, and what every deck keeps.
+//! These pins fix what `item_catalog` gives for short texts of decks: the fault of each, by its record and its kind. They also
+//! fix the queries of a drill's deck, the updates of an updater, and what holds of every deck.
 
 ghost use Rattle.std.specs.Prelude.{◌≡◌, ◌≤◌, [], ◌∷◌, codes, get_or, length, sum_by, IfOk};
 ghost use Rattle.text_pins.specs.DeckAnswers.{IsDeckFaultOrNoMemory, committed_twice, replanned_twice, spread_over_three, three_disks, unknown_second};
@@ -27,7 +27,7 @@ pub fn earlier_script_records_forgotten(alloc: Global, bytes: &[u8]) -> Result<D
     read_deck(alloc, bytes)
 }
 
-/// The frequency 64 passes no limit; so it is the end that is refused, since the sizes don't add up.
+/// The frequency 64 passes no limit; the end is refused instead, since the sizes don't add up.
 pub fn greatest_frequency_refused(alloc: Global, bytes: &[u8]) -> Result<Deck, DeckError>
     requires { bytes.now ≡ codes "disk,1,64" }
     ensures { IsDeckFaultOrNoMemory 2 6 result }
@@ -35,7 +35,8 @@ pub fn greatest_frequency_refused(alloc: Global, bytes: &[u8]) -> Result<Deck, D
     read_deck(alloc, bytes)
 }
 
-/// A `-` in a replan goes by the number of that replan's disks, and by the deck's delta: of three disks the first is aired three times.
+/// The frequency of a `-` in a replan follows from the number of that replan's disks and from the deck's delta: of three disks
+/// the first is aired three times.
 #[tactic(auto, using(crate::proofs::DeckLemmas::replans_told))]
 pub fn frequency_by_the_disks_of_the_deck(alloc: Global, bytes: &[u8]) -> Result<Deck, DeckError>
     requires { bytes.now ≡ spread_over_three }
@@ -44,7 +45,7 @@ pub fn frequency_by_the_disks_of_the_deck(alloc: Global, bytes: &[u8]) -> Result
     read_deck(alloc, bytes)
 }
 
-/// Of an item with a wrong number and too great a rate the number is told.
+/// If an item has a wrong number and too great a rate, the number is reported.
 pub fn greatest_kind_for_the_least(alloc: Global, bytes: &[u8]) -> Result<Deck, DeckError>
     requires { bytes.now ≡ codes "item,1,0,1000001" }
     ensures { IsDeckFaultOrNoMemory 1 3 result }
@@ -76,7 +77,7 @@ pub fn replan_in_the_cycle_of_the_one_before(alloc: Global, bytes: &[u8]) -> Res
     read_deck(alloc, bytes)
 }
 
-/// A setting without a value has too few fields, before its name is looked at.
+/// A setting without a value has too few fields; its name isn't looked at.
 pub fn setting_checked_before_its_fields(alloc: Global, bytes: &[u8]) -> Result<Deck, DeckError>
     requires { bytes.now ≡ codes "set,delta" }
     ensures { IsDeckFaultOrNoMemory 1 1 result }
@@ -92,14 +93,14 @@ pub fn queries_drawn_before_updates(alloc: Global) -> Result<Deck, NoMemory>
     drill_deck(alloc, 1, 1)
 }
 
-/// Sizes that don't add up have the number 6.
+/// The kind of sizes that don't add up has the number 6.
 pub fn sizes_told_as_a_limit() -> u8
     ensures { result ≡ 6 }
 {
     FaultKind::Sizes.code()
 }
 
-/// All queries of a deck together are 10,000 at most.
+/// All queries of a deck together are at most 10,000.
 pub fn total_without_the_record_itself(deck: &Deck)
     ensures { sum_by length deck.now.queries ≤ 10000 }
 {

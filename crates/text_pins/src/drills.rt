@@ -1,5 +1,5 @@
-//! These pins fix what `item_catalog` draws by the first words of a seed: an item, an update and a query.
-//! They also fix the settings, which are the same in each drill but for the seed.
+//! These pins fix what `item_catalog` draws by the first words of a seed: an item, an update and a query. They also fix the
+//! settings, which are the same in each drill except for the seed.
 
 ghost use Rattle.std.specs.Prelude.{◌≡◌, [], ◌∷◌, IfOk};
 ghost use Rattle.air_base.specs.declared.verdicts.Policy.TheVariants.{FMatrix};
@@ -13,7 +13,7 @@ use item_catalog::{draw_item, draw_query, draw_update, drill_settings};
 use rand_pcg::Lcg64Xsh32;
 use std::alloc::Global;
 
-/// The first item of seed 1 has a rate of 65, where the word gives 64 of the numbers from 0.
+/// The first item of seed 1 has a rate of 65: the word gives 64, counted from 0.
 #[tactic(auto, unfolding(air_model::specs::Draws::draw))]
 pub fn rate_from_nought(words: &mut Lcg64Xsh32) -> (u64, u32)
     requires { words.old ≡ generator 1 1 }

@@ -1,7 +1,8 @@
-//! Pins of the libraries of texts and bytes: each is one call on small values, and says the answer, or what every answer must keep.
+//! Pins of the libraries of texts and bytes: each is one call on small values, and gives the answer, or what holds of every
+//! answer.
 //!
-//! A pin is proved from the contract of its call alone, so a contract or a definition that lets another answer through fails it. It is
-//! named for the blunder that it refuses, and its comment says what else it refuses.
+//! A pin is proved from the contract of its call only, so it fails if a contract or a definition lets another answer through.
+//! It is named for the mistake that it refuses, and its comment says what else it refuses.
 #![tactic(auto)]
 
 pub mod buckets;

@@ -8,7 +8,7 @@ use air_base::NoMemory;
 use csv::ByteRecord;
 use item_catalog::{Records, one, two};
 
-/// Where a record has three fields after its tag, no two are taken of it.
+/// If a record has three fields after its tag, no two are taken from it.
 pub fn longer_record_taken(fields: &ByteRecord) -> Option<(&[u8], &[u8])>
     requires { fields_of fields.now ≡ codes "t" ∷ codes "a" ∷ codes "b" ∷ codes "c" ∷ [] }
     ensures { result ≡ None }
@@ -38,7 +38,7 @@ pub fn record_of_one_field_taken_for_the_end(
     records.next(fields)
 }
 
-/// After out of memory no record is given any more, and there are no fields.
+/// After out of memory no further record is given, and there are no fields.
 pub fn record_given_after_no_memory(
     records: &mut Records<'_>,
     fields: &mut ByteRecord,

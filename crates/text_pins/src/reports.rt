@@ -1,5 +1,5 @@
-//! These pins fix what `write_report` writes of small reports, whose numbers differ where a text could exchange them.
-//! They also fix how `row_writer` sets up a writer, and how `refusal_line` tells a refusal by its number and its line.
+//! These pins fix what `write_report` writes for small reports, whose numbers differ wherever a text could exchange them. They
+//! also fix how `row_writer` sets up a writer, and how `refusal_line` gives a refusal by its number and its line.
 
 ghost use Rattle.std.specs.Prelude.{◌≡◌, ◌++◌, [], codes, true, IfOk, OnOk};
 ghost use Rattle.csv.specs.Writing.{default_writer, with_flexible, writer_setup};
@@ -17,7 +17,7 @@ pub fn rows_of_one_length(text: Vec<u8>) -> Writer<Vec<u8>>
     row_writer(text)
 }
 
-/// A commit tells its updater before its number. It also refuses that a start has no row.
+/// A commit's row has its updater before its number. It also refuses that a start has no row.
 #[tactic(auto, using(crate::proofs::ReportLemmas::text_of_two_events))]
 pub fn by_and_seq_swapped(alloc: Global, report: &Report, out: &mut Vec<u8>) -> Result<(), NoMemory>
     requires report { report.now ≡ of_two_events }
@@ -27,8 +27,8 @@ pub fn by_and_seq_swapped(alloc: Global, report: &Report, out: &mut Vec<u8>) -> 
     write_report(alloc, report, out)
 }
 
-/// A verdict tells its reader, query and attempt, and then its reads. It also refuses that a read tells its cycle for its item, and
-/// that two spaces come between reads.
+/// A verdict's row has its reader, query and attempt, and then its reads. It also refuses that a read has its cycle for its
+/// item, and that two spaces are between reads.
 #[tactic(auto, using(crate::proofs::ReportLemmas::text_of_an_abort))]
 pub fn attempt_told_as_query(
     alloc: Global,
@@ -56,7 +56,7 @@ pub fn aged_told_as_an_abort(
     write_report(alloc, report, out)
 }
 
-/// Counts are told in this order: opened, dozed, late, refused, foreign and copied.
+/// Counts are in this order: opened, dozed, late, refused, foreign and copied.
 #[tactic(auto, using(crate::proofs::ReportLemmas::text_of_counts))]
 pub fn refused_told_as_late(
     alloc: Global,
@@ -70,7 +70,8 @@ pub fn refused_told_as_late(
     write_report(alloc, report, out)
 }
 
-/// What was seen in the run is told as a glance, by who calls and by who writes the row, and what was seen at its end as a look.
+/// What was seen during the run is written as a glance, and what was seen at its end as a look. It refuses that the report's
+/// writer or the row's writer exchanges them.
 #[tactic(auto, using(crate::proofs::ReportLemmas::text_of_a_glance_and_a_look))]
 pub fn glances_written_as_looks(
     alloc: Global,
@@ -84,7 +85,7 @@ pub fn glances_written_as_looks(
     write_report(alloc, report, out)
 }
 
-/// A report goes after the text that is there.
+/// A report is added after the text that is there.
 #[tactic(auto, using(crate::proofs::ReportLemmas::text_of_a_start))]
 pub fn report_in_place_of_the_text(
     alloc: Global,
@@ -98,7 +99,7 @@ pub fn report_in_place_of_the_text(
     write_report(alloc, report, out)
 }
 
-/// The line of a cut tape has the number 6, and tells the byte.
+/// The line of a cut tape has the number 6, and names the byte.
 #[tactic(auto, unfolding(air_model::specs::Rows::rows_text, air_base::specs::Numbers::number_text, csv::specs::Writing::fields_text, csv::specs::Writing::is_blank))]
 pub fn cut_told_as_too_large(alloc: Global, status: &Status) -> Result<Vec<u8>, NoMemory>
     requires { status.now ≡ Status.TapeCut 36 }
@@ -107,7 +108,7 @@ pub fn cut_told_as_too_large(alloc: Global, status: &Status) -> Result<Vec<u8>, 
     refusal_line(alloc, status)
 }
 
-/// A fault of writing has the number 4.
+/// A fault in writing has the number 4.
 pub fn number_of_a_read_fault(status: &Status) -> u8
     requires { status.now ≡ Status.WriteFault }
     ensures { result ≡ 4 }

@@ -1,11 +1,11 @@
-//! These pins fix what the rooms of `air_devices` keep of bytes and of records, by the room that is left.
-//! Of bytes it keeps those that fit; a record it keeps whole, with its length, or not at all.
+//! These pins fix what the rooms of `air_devices` keep of bytes and of records, by the room that is left. Of bytes, those that
+//! fit are kept; a record is kept whole, with its length, or not at all.
 
 ghost use Rattle.std.specs.Prelude.{◌≡◌, [], ◌∷◌, true, false};
 
 use air_devices::{FixedBytes, TapeRoom};
 
-/// Of bytes that don't all fit those that do are added.
+/// If not all bytes fit, those that fit are added.
 pub fn print_past_the_room_adds_nothing(text: &mut FixedBytes, bytes: &[u8]) -> bool
     requires text { text.old ≡ record { bytes = 1 ∷ []; room = 3 } }
     requires bytes { bytes.now ≡ 2 ∷ 3 ∷ 4 ∷ [] }

@@ -1,5 +1,5 @@
-//! These pins fix what `item_catalog` reads of short lists of items and of writes.
-//! A list is read to the end of its text or isn't taken, and what is wrong with a write's base is remembered.
+//! These pins fix what `item_catalog` reads of short lists of items and of writes. A list is read to the end of its text or
+//! isn't taken, and a fault of a write's base is remembered.
 
 ghost use Rattle.std.specs.Prelude.{◌≡◌, [], ◌∷◌, codes, true, false};
 ghost use Rattle.item_catalog.specs.KeptLists.{no_items, no_writes};
@@ -49,7 +49,7 @@ pub fn trailing_space_taken(items: &mut ItemList, text: &[u8]) -> bool
     items.read(2, text)
 }
 
-/// Of a text that isn't a list no item is kept, though its first parts are items.
+/// Of a text that isn't a list no item is kept, even if its first parts are items.
 #[tactic(auto, unfolding(air_base::specs::Numbers::number_of, air_base::specs::NumberLists::all_some))]
 pub fn items_kept_of_no_list(items: &mut ItemList, text: &[u8]) -> bool
     requires { text.now ≡ codes "0 x" }
@@ -58,7 +58,7 @@ pub fn items_kept_of_no_list(items: &mut ItemList, text: &[u8]) -> bool
     items.read(2, text)
 }
 
-/// Of a text that isn't a list no write is kept, though its first parts are writes.
+/// Of a text that isn't a list no write is kept, even if its first parts are writes.
 #[tactic(auto, unfolding(air_base::specs::Numbers::number_of, air_base::specs::NumberLists::all_some, item_catalog::specs::Writes::spelled_write, item_catalog::specs::Writes::spelled_value_write))]
 pub fn writes_kept_of_no_list(writes: &mut WriteList, reads: &ItemList, text: &[u8]) -> bool
     requires { text.now ≡ codes "1=5 x" }

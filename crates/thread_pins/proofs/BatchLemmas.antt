@@ -27,13 +27,13 @@ two_frames : frame_of first_values (batch_events (first_batch ∷ second_batch �
 unfolding table value_after write_of value_on_base starts column_entry greatest writer writer_before last_place writes writes_of descends descends_in reads cycle_at is_start
 two_frames = refl
 
--- Each batch that was published ends with its one start, where none was published before.
+-- Each published batch ends with its one start, if none was published before.
 pub ends_each : (n : ℕ) (old rest new : List (List Event)) → length old + 0 ≡ 0 → old ++ rest ≡ new → All (IsBatch n) rest →
     All (λ batch. (commits : List Event) × (batch ≡ commits ++ Start ∷ []) × (starts commits ≡ 0)) new
 ends_each n [] rest new none is each = subst (All (λ batch. (commits : List Event) × (batch ≡ commits ++ Start ∷ []) × (starts commits ≡ 0))) is (λ k d h. (each k d h).ends)
 ends_each n (b ∷ old) rest new none is each = absurd (omega arith)
 
--- What a look says of its value is so where it answers one.
+-- What a look says of its value holds if it answers one.
 pub on_ok : {T E : Type 0} (r : Result T E) (P Q R : Type 0) → MatchResult r (λ _. P) (λ _. Q) → (P → R) → OnOk r R
 on_ok (Ok x) P Q R h f = f h
 on_ok (Err e) P Q R h f = tt

@@ -1,4 +1,4 @@
--- What one event more makes of a history that goes on by events of others alone.
+-- What one more event makes of a history that continues only by events of others.
 use Rattle.std.proofs.Common.{◌≡◌, ℕ, ◌+◌, Bool, cond, List, [], ◌∷◌, ◌++◌, Result, Ok, Err, length, get_or, refl, sym, ap, ◌∙◌, subst, arith}
 use Rattle.std.specs.Prelude.{count_by, IfOk, MatchResult, OnOk}
 use Rattle.std.proofs.lemmas.List.{length-append}
@@ -15,7 +15,7 @@ use Rattle.thread_pins.specs.SmallBatches.{first_batch, reads_and_sets}
 same_count : (own : Event → Bool) (seen later : List Event) → GoesOnWithout own seen later → count_by own later ≡ count_by own seen
 same_count own seen later g = ap (count_by own) g.1 ∙ (let both = sum_by-append (λ x. cond (own x) 1 0) seen g.0 in let none = g.2 in omega arith)
 
--- One event more counts as it does alone.
+-- One more event counts as it does alone.
 one_more : (own : Event → Bool) (before : List Event) (e : Event) → count_by own (before ++ e ∷ []) ≡ count_by own before + count_by own (e ∷ [])
 one_more own before e = sum_by-append (λ x. cond (own x) 1 0) before (e ∷ [])
 
@@ -38,7 +38,7 @@ counts : (before : List Event) → count_made 0 before ≡ 0 → count_made 0 (b
 unfolding is_by
 counts before none = let more = one_more (is_by 0) before commit in let one : count_by (is_by 0) (commit ∷ []) ≡ 1 = refl in omega arith
 
--- The history is that before and the commit.
+-- The history is the one before and the commit.
 is_commit : (number : ℕ) (seen before new : List Event) (u : UpdateLists) → number ≡ 0 → seen ≡ [] → u ≡ reads_and_sets 0 1 5 →
     new ≡ before ++ Commit number (count_made number seen) u ∷ [] → new ≡ before ++ commit ∷ []
 is_commit number seen before new u n s e is =

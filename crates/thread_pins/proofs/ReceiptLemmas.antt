@@ -1,4 +1,4 @@
--- The reply to a commit after the first batch, computed, and that a receipt gives it where no event of others came between.
+-- The reply to a commit after the first batch, computed. A receipt gives it if no event of others came between.
 use Rattle.std.proofs.Common.{◌≡◌, ℕ, ◌+◌, Bool, ◌∷◌, [], ◌++◌, List, Result, Ok, Err, length, refl, ap, ◌∙◌, arith}
 use Rattle.std.specs.Prelude.{MatchResult, IfOk}
 use Rattle.std.proofs.lemmas.List.{length-append}
@@ -18,7 +18,7 @@ use Rattle.thread_pins.specs.SmallBatches.{first_values, first_batch, reads_and_
 abbrev three_events : List Event
 three_events = first_batch ++ Commit 1 0 (reads_and_sets 0 1 5) ∷ []
 
--- What that commit is answered.
+-- The reply to that commit.
 abbrev reply : Reply
 reply = record { number = 2; cycle = 1; read = 18_446_744_073_709_551_615 ∷ []; written = 5 ∷ [] }
 
@@ -35,7 +35,7 @@ is_empty : (events : List Event) → length events ≡ 0 → events ≡ []
 is_empty [] h = refl
 is_empty (x ∷ xs) h = absurd (omega arith)
 
--- A list of two events that goes on from the first batch is the first batch.
+-- A list of two events that continues the first batch is the first batch.
 is_first : (own : Event → Bool) (seen before : List Event) → seen ≡ first_batch → GoesOnWithout own seen before → length before ≡ 2 → before ≡ first_batch
 is_first own seen before s g two =
     let long : length before ≡ length seen + length g.0 = ap length g.1 ∙ length-append seen g.0 in

@@ -1,4 +1,4 @@
--- Small updates, and two batches of them over two items, with which the pins of threads work.
+-- Small updates, and two batches of them over two items, for the pins of threads.
 use Rattle.std.specs.Prelude.{ℕ, List, [], ◌∷◌, Some, None, false}
 use Rattle.air_history.specs.declared.histories.Event.{Event}
 use Rattle.air_history.specs.declared.histories.Event.TheVariants.{Commit, Start}

@@ -1,6 +1,6 @@
 //! These pins of the jobs of `deck_runs` say what a job of one update, of one or two looks and of two cycles leaves.
 //!
-//! Other jobs may commit at the same time, so they say what every order of events must keep.
+//! Other jobs may commit at the same time, so the pins say what every order of events must keep.
 #![tactic(auto, unfolding(air_model::specs::DeckLaws::made_by, air_model::specs::DeckLaws::commits_from))]
 
 ghost use Rattle.std.specs.Prelude.{◌≡◌, ◌≤◌, ◌<◌, ◌+◌, ◌^◌, ◌++◌, ℕ, List, [], ◌∷◌, length, All, Err, IfOk, OnErr, OnOk};
@@ -27,7 +27,7 @@ use station::{ConductorPass, Station, UpdaterPass};
 use std::alloc::Global;
 use std::sync::Wait;
 
-/// A first job of one update makes one commit, of this update with its read, whatever others commit at the same time.
+/// A first job of one update makes one commit, of this update with its read, regardless of what others commit at the same time.
 pub fn other_or_double_commit<R: Wait, G: Gate>(
     wait: &R,
     alloc: Global,
@@ -76,7 +76,7 @@ pub fn line_of_another_number<G: Gate>(
     monitor_job(monitor, 1, gate)
 }
 
-/// So has the line of a last look.
+/// The line of a last look has the number 0, too.
 pub fn last_line_of_another_number(
     monitor: &mut Monitor,
     publisher: &Publisher,
@@ -87,8 +87,8 @@ pub fn last_line_of_another_number(
     last_look(monitor, publisher)
 }
 
-/// A first job of two cycles starts two, and publishes two batches: one a cycle, each ending with its start, and together all that was
-/// seen up to the last start. It also refuses a job of fewer cycles.
+/// A first job of two cycles starts two, and publishes two batches: one a cycle, each with its start at the end, and together all that was seen up to
+/// the last start. It also refuses a job of fewer cycles.
 pub fn cycle_left_out<R: Wait, M: Mast, G: Gate>(
     wait: &R,
     alloc: Global,
@@ -117,9 +117,9 @@ pub fn cycle_left_out<R: Wait, M: Mast, G: Gate>(
     )
 }
 
-/// Where a first job of two cycles tells that the mast failed, each cycle that it started is published, and the mast's count rose; and
-/// whatever it tells, the board is at the last cycle that it started. It also refuses a job that starts a cycle more than it
-/// publishes, a board that stays behind, and that the mast is blamed for being out of memory.
+/// If a first job of two cycles answers that the mast failed, each cycle that it started is published, and the mast counted a failure. Regardless of
+/// its answer, the board is at the last cycle that it started. It also refuses a job that starts a cycle more than it publishes, a board of an
+/// earlier cycle, and an answer that the mast failed when the job was out of memory.
 pub fn board_left_behind<R: Wait, M: Mast, G: Gate>(
     wait: &R,
     alloc: Global,

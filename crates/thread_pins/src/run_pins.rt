@@ -1,6 +1,6 @@
-//! These pins of `run_threads` say what a run of three cycles with two monitors answers, and what a run tells that fails.
+//! These pins of `run_threads` say what a run of three cycles with two monitors answers, and what a failed run answers.
 //!
-//! Its threads go on in any order, so they say what every run must keep.
+//! Its threads run in any order, so the pins say what every run must keep.
 
 ghost use Rattle.std.specs.Prelude.{◌≡◌, ◌≤◌, ℕ, [], ◌∷◌, length, map, All, Err, Some, IfOk};
 ghost use Rattle.air_history.specs.Histories.{starts};
@@ -16,9 +16,9 @@ use std::alloc::Global;
 use std::sync::Wait;
 use std::thread::Threads;
 
-/// A run of three cycles has three starts and three batches; each of its two monitors has a glance and a look of its own number, and
-/// looks at the last cycle. It also refuses lines of the first monitor alone, a glance that is told as the look, the batches of before
-/// the run, and that a conductor's fault is passed over.
+/// A run of three cycles has three starts and three batches. Each of its two monitors has a glance and a look of its own number, and looks at the
+/// last cycle. It also refuses lines of the first monitor only, a glance returned as the look, the batches of before the run, and that a conductor's
+/// fault is ignored.
 pub fn every_look_of_monitor_0<R: Threads + Wait + Sync, M: Mast + Send, G: Gate + Sync>(
     rt: &R,
     alloc: Global,
@@ -51,8 +51,8 @@ pub fn one_updater_done_for_all<R: Threads + Wait + Sync, M: Mast + Send, G: Gat
     run_threads(rt, alloc, planned, mast, gate)
 }
 
-/// A run that tells that the mast failed tells how many buckets it had sent, and the mast's count rose. It also refuses that the mast
-/// is blamed for being out of memory.
+/// A run that answers that the mast failed has the number of buckets that it had sent, and the mast counted a failure. It also refuses an answer that
+/// the mast failed when the run was out of memory.
 pub fn sent_buckets_not_counted<R: Threads + Wait + Sync, M: Mast + Send, G: Gate + Sync>(
     rt: &R,
     alloc: Global,

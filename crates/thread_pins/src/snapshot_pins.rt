@@ -1,6 +1,6 @@
-//! These pins of `cycle_snapshot` say which frames one and two small batches have, and what a publisher and a monitor then know.
+//! These pins of `cycle_snapshot` say which frames one and two small batches have, and what a publisher and a monitor know after them.
 //!
-//! A monitor may see more than it was told, so some hold for one list that it may have seen.
+//! A monitor may see more than it was told, so some pins hold for one list that it may have seen.
 
 ghost use Rattle.std.specs.Prelude.{◌≡◌, ◌≤◌, ◌<◌, [], ◌∷◌, length, IfOk, OnOk};
 ghost use Rattle.thread_pins.specs.SmallBatches.{first_values, first_batch, second_batch};
@@ -29,7 +29,7 @@ pub fn total_without_modulus(monitor: &mut Monitor) -> Result<(), NoMemory>
     monitor.look()
 }
 
-/// A monitor that was told two batches sees two at least.
+/// A monitor that was told two batches sees at least two.
 pub fn look_goes_back_behind_what_was_told(monitor: &mut Monitor) -> Result<(), NoMemory>
     requires { monitor.old.told ≡ first_batch ∷ second_batch ∷ [] }
     ensures { OnOk result (2 ≤ length monitor.new.seen) }
@@ -37,7 +37,7 @@ pub fn look_goes_back_behind_what_was_told(monitor: &mut Monitor) -> Result<(), 
     monitor.look()
 }
 
-/// A monitor that is told a batch has been told one at least.
+/// A monitor that is told a batch has been told at least one.
 pub fn note_forgotten(monitor: &mut Monitor, told: Told)
     requires own { told.publisher ≡ monitor.old.publisher }
     requires told { told.batches ≡ first_batch ∷ [] }
@@ -73,7 +73,7 @@ pub fn one_monitor_too_few<R: Wait>(
     publisher(wait, alloc, values, 3, 5)
 }
 
-/// A monitor that looked three times tells three looks.
+/// A monitor that looked three times answers three looks.
 pub fn looks_counted_from_one(monitor: &Monitor) -> u64
     requires { monitor.now.looks ≡ 3 }
     ensures { result ≡ 3 }

@@ -1,6 +1,6 @@
-//! These pins of `station` say what each call through a pass adds to the history, what it answers, and what closes it.
+//! These pins of `station` say what each call through a pass adds to the history, what it answers, and what history the close gives.
 //!
-//! Other passes may add events first, so some hold where they added none.
+//! Other passes may add events first, so some pins hold if they added none.
 #![tactic(auto, unfolding(air_history::specs::Histories::is_start, air_history::specs::Histories::starts))]
 
 ghost use Rattle.std.specs.Prelude.{◌≡◌, ◌<◌, ◌-◌, ◌^◌, ◌++◌, ℕ, [], ◌∷◌, length, slice_get, All, Contains, Some, IfOk, OnOk};
@@ -31,8 +31,8 @@ pub fn passes_in_reverse_order(
     Station::new(alloc, deck)
 }
 
-/// The first commit of an updater is its one commit then, with the update that was given, its read too, which no write needs. It also
-/// refuses an update that isn't committed, or is committed twice.
+/// After the first commit of an updater it has made one, with the given update, including its read, which no write needs. It also refuses an update
+/// that isn't committed, or is committed twice.
 pub fn another_update_committed<R: Wait>(
     station: &Station,
     wait: &R,
@@ -52,8 +52,8 @@ pub fn another_update_committed<R: Wait>(
     station.commit(wait, alloc, pass, update)
 }
 
-/// The first cycle is one start, has the number 1, and the events since the start before are the start alone where nothing else was
-/// added. It also refuses a start that is given twice, and a cycle that is told but not started.
+/// The first cycle is one start and has the number 1. If nothing else was added, the events since the start before are this start alone. It also
+/// refuses a start that is given twice, and a cycle that is answered but not started.
 pub fn fresh_without_its_start<R: Wait>(
     station: &Station,
     wait: &R,
@@ -85,7 +85,7 @@ pub fn start_added_at_the_close(
     station.close(passes, conductor)
 }
 
-/// A conductor's pass that has seen two starts tells two.
+/// A conductor's pass that has seen two starts answers two.
 pub fn next_cycle_for_those_started(pass: &ConductorPass) -> u32
     requires { pass.now.seen ≡ first_batch ++ second_batch }
     ensures { result ≡ 2 }
@@ -93,8 +93,8 @@ pub fn next_cycle_for_those_started(pass: &ConductorPass) -> u32
     pass.started()
 }
 
-/// Where a commit alone was added since the first batch, its receipt tells its place 2, its cycle 1, the value that it read and the
-/// one that it wrote. It also refuses a receipt of another update.
+/// If only one commit was added since the first batch, its receipt has its place 2, its cycle 1, the value that it read and the one that it wrote. It
+/// also refuses a receipt of another update.
 pub fn receipt_without_its_cycle<R: Wait>(
     station: &Station,
     wait: &R,

@@ -9,8 +9,8 @@ use air_base::NoMemory;
 use std::alloc::Global;
 use turnstile::{Chronicle, Pass, Turnstile};
 
-/// Two passes that are made together stand for the numbers 0 and 1, in this order, each for its own number alone. It also
-/// refuses passes that are dealt from the last, and two passes of one number.
+/// Two passes that are made together have the numbers 0 and 1, in this order, each only its own. It also refuses passes that are handed out from the
+/// last, and two passes of one number.
 pub fn last_pass_not_dealt<K: Chronicle + Drop>(
     alloc: Global,
     value: K,
@@ -23,19 +23,19 @@ pub fn last_pass_not_dealt<K: Chronicle + Drop>(
     Turnstile::new(alloc, value, 2)
 }
 
-/// After a join a pass stands for its own number and then the other's, and has seen the longer list. It also refuses that the
-/// shorter list is kept, and that the two passes change places.
+/// After a join a pass has its own number and then the other's, and has seen the longer list. It also refuses that the shorter list is kept, and that
+/// the two passes change places.
 pub fn join_forgets_the_others_numbers<K: Chronicle>(
-    gate: &Turnstile<K>,
+    turnstile: &Turnstile<K>,
     pass: &mut Pass<K>,
     other: Pass<K>,
 )
-    requires own { (pass.old.gate ≡ gate.now) × (other.gate ≡ gate.now) }
+    requires own { (pass.old.turnstile ≡ turnstile.now) × (other.turnstile ≡ turnstile.now) }
     requires outside { (pass.old.turn ≡ None) × (other.turn ≡ None) }
     requires numbers { (pass.old.numbers ≡ 0 ∷ []) × (other.numbers ≡ 1 ∷ []) }
     requires seen { (pass.old.seen ≡ []) × (length other.seen ≡ 1) }
     ensures numbers { pass.new.numbers ≡ 0 ∷ 1 ∷ [] }
     ensures seen { pass.new.seen ≡ other.seen }
 {
-    gate.join(pass, other);
+    turnstile.join(pass, other);
 }

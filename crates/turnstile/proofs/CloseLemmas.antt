@@ -26,7 +26,7 @@ module _ {K E B : Type 0} (entries : K → List (ℕ × E)) (base : K → B) whe
       dite (ℕ_discrete j id) (λ same. none-some r.serving (sym free ∙ (ap (λ (z : V). z.ticket) (some-injective v u (sym at ∙ (ap (get_elem? s.views) (sym same) ∙ p.1.1))) ∙ t.2)))
       (λ differs. shared_no entries base s r j id u v m differs p.1.1 at n.1 mine))
 
-  -- with all numbers in one seat the slot is at home, with the list that was seen
+  -- if one seat has all numbers, the slot is at home, and the value's list is the one that was seen
   pub closes : (id : ℕ) (v : V) (ws : List ℕ) (xs : List (Option K)) → v.ticket ≡ None → 0 < length v.sight.numbers → ((m : ℕ) → m < v.passes → Contains v.sight.numbers m)
       → Final (Seen (IsByRule entries base) id v) ws xs → (x : K) × (get_elem? xs 0 ≡ some (Some x)) × (entries x ≡ v.sight.entries) × (v.base ≡ Some (base x))
   closes id v ws xs free live all f =

@@ -1,4 +1,4 @@
--- What the steps of `enter` tell together.
+-- What the steps of `enter` together tell.
 use Rattle.std.proofs.Common.{◌≡◌, ℕ, List, [], ◌∷◌, sym, ap, ◌∙◌, subst}
 use Rattle.std.specs.Prelude.{Option, Some, None}
 use Rattle.std.proofs.lemmas.Option.{none-some, same_Some}
@@ -15,7 +15,8 @@ module _ {K E B : Type 0} (entries : K → List (ℕ × E)) (base : K → B) whe
   abbrev M : Type 0
   M = Me (Option K) V
 
-  -- what the four steps of `enter` tell: the taking of a ticket, a loop that leaves the seat, the load that finds the ticket, and the exchange that takes y out
+  -- what the four steps of `enter` tell: taking a ticket, a loop that leaves the seat as it is, the load that finds the ticket,
+  -- and the exchange that takes y out
   pub enters : (m0 m1 m2 m3 : M) (t r : ℕ) → m1 ≡ (record m0.0 { ticket = Some t }, m0.1) → m2 ≡ m1 → IsServed entries base (step 1 1 0 0 none) m2 r m3 → r ≡ t
       → (x : K) × (m3 ≡ (record m0.0 { ticket = Some t; noted = Some (entries x) }, (0, Some x) ∷ [])) × (m0.0.base ≡ Some (base x)) × Continues m0.0.sight.numbers m0.0.sight.entries (entries x)
   enters m0 m1 m2 m3 t r a b told is = let o = (told t (ap (λ (m : M). m.0.ticket) (b ∙ a))).0 is in let same = b ∙ a in (
@@ -29,7 +30,7 @@ module _ {K E B : Type 0} (entries : K → List (ℕ × E)) (base : K → B) whe
   first_slot [] = None
   first_slot (y ∷ ys) = y.1
 
-  -- the exchange takes out that value
+  -- the exchange takes out the value x
   pub took : (m0 m3 m4 : M) (t : ℕ) (x y : K) (o : Option K) → m3 ≡ (record m0.0 { ticket = Some t; noted = Some (entries x) }, (0, Some x) ∷ []) → m3.1 ≡ (0, o) ∷ rest m3.1 → m4 ≡ (m3.0, (0, None) ∷ rest m3.1) → o ≡ Some y
       → (x ≡ y) × (m4 ≡ (record m0.0 { ticket = Some t; noted = Some (entries x) }, (0, None) ∷ []))
   took m0 m3 m4 t x y o is held after got = (same_Some x y (sym (ap (λ (m : M). first_slot m.1) is) ∙ (ap first_slot held ∙ got)), after ∙ ap (λ (m : M). (m.0, (0, None) ∷ rest m.1)) is)

@@ -1,4 +1,4 @@
--- Lists of entries: own ones, others', and how one list goes on from another.
+-- Lists of entries: a pass's own, those of others, and how one list continues another.
 use Rattle.std.proofs.Common.{◌≡◌, ℕ, ◌+◌, ◌<◌, ◌≤◌, Bool, true, false, cond, leb, ⊎_elim, List, [], ◌∷◌, ◌++◌, length, length-append, get_or, sym, refl, ap, ◌∙◌, subst, arith, append_assoc, drop}
 use Rattle.std.specs.Prelude.{All, Contains}
 use Rattle.std.proofs.lemmas.List.{append-nil, get_or_append_left, get_or-append-add}
@@ -21,7 +21,7 @@ module _ {E : Type 0} where
   foreign_back : (ns : List ℕ) (xs ys : List (ℕ × E)) → Foreign ns (xs ++ ys) → Foreign ns ys
   foreign_back ns xs ys h = all_back (λ (e : ℕ × E). ¬ Contains ns e.0) xs ys h
 
-  -- what was seen goes on by entries of others
+  -- a list that continues what was seen still does after more entries of others
   pub goes_on : (ns : List ℕ) (seen now more later : List (ℕ × E)) → later ≡ now ++ more → Foreign ns more → Continues ns seen now → Continues ns seen later
   goes_on ns seen now more later is new c = (c.0 ++ more, is ∙ (ap (λ l. l ++ more) c.1 ∙ append_assoc seen c.0 more), All-append (λ (e : ℕ × E). ¬ Contains ns e.0) c.0 more c.2 new)
 
@@ -51,7 +51,8 @@ module _ {E : Type 0} where
   head_or d [] = d
   head_or d (x ∷ xs) = x
 
-  -- of two beginnings of one list the shorter begins the longer, and what follows is part of what followed
+  -- if two lists begin the same list, the longer continues the shorter, and what follows the longer is part of what followed
+  -- the shorter
   pub beyond : (ns : List ℕ) (a b ra rb : List (ℕ × E)) → a ++ ra ≡ b ++ rb → length a ≤ length b → Foreign ns ra → Continues ns a b × Foreign ns rb
   beyond ns [] b ra rb same less p = let q = subst (Foreign ns) same p in ((b, refl, foreign_front ns b rb q), foreign_back ns b rb q)
   beyond ns (x ∷ a) [] ra rb same less p = absurd (omega arith)
@@ -73,7 +74,7 @@ module _ {E : Type 0} where
   none_left ns n [] all b f = refl
   none_left ns n (x ∷ xs) all b f = absurd (f 0 x (omega arith) (all x.0 (b 0 x (omega arith))))
 
-  -- who has all numbers has seen the whole list
+  -- a pass with all numbers has seen the whole list
   pub seen_whole : (ns : List ℕ) (n : ℕ) (seen now : List (ℕ × E)) → ((m : ℕ) → m < n → Contains ns m) → Below n now → Continues ns seen now → now ≡ seen
   seen_whole ns n seen now all b c =
       c.1 ∙ (ap (λ l. seen ++ l) (none_left ns n c.0 all (all_back (λ (e : ℕ × E). e.0 < n) seen c.0 (subst (Below n) c.1 b)) c.2) ∙ append-nil seen)

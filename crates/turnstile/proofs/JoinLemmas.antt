@@ -1,4 +1,4 @@
--- A pass takes in another, and the load that follows tells how the two lists stand to one another.
+-- A pass takes in another, and the load that follows tells how the two lists are related.
 use Rattle.std.proofs.Common.{◌≡◌, ℕ, zero, suc, ◌+◌, ◌<◌, List, [], ◌∷◌, ◌++◌, length, get_or, set, sym, refl, ap, ◌∙◌, subst, arith, length-append}
 use Rattle.std.specs.Prelude.{Option, None, Contains}
 use Rattle.std.proofs.lemmas.List.{set-get_or}
@@ -72,7 +72,7 @@ module _ {K E B : Type 0} (entries : K → List (ℕ × E)) (base : K → B) whe
       (apart_set vs other nothing (apart_set s.views id u r.apart (λ j x t _ e k same. none-some t (sym free ∙ same))) (λ j x t _ e k same. none-some t same))
       (phase_set entries base s.homes vs r.now r.based r.phase other w nothing there rests' (phase_set entries base s.homes s.views r.now r.based r.phase id v u at rests r.in_phase))
 
-  -- a load tells how the old lists stand to one another
+  -- a load tells how the two old lists are related
   pub compares : (slots id : ℕ) (me : M) → me.0.noted ≡ None → Allows (IsByRule entries base) slots id me 0 (λ n. n) (HasCompared entries base (step slots 0 0 0 none) me)
   compares slots id me rests s r wide at small =
       let w : V = record me.0 { old = [] } in

@@ -1,4 +1,4 @@
--- How often a number stands in a list of numbers.
+-- How often a list of numbers has a number.
 use Rattle.std.proofs.Common.{◌≡◌, ℕ, zero, suc, ◌+◌, ◌<◌, ◌≤◌, Bool, true, false, cond, leb, List, [], ◌∷◌, ◌++◌, length, get_or, sym, refl, ap, arith, take, drop, eq-eqb, ne_eqb}
 use Rattle.std.specs.Prelude.{◌==◌, Contains}
 use mathlib.Core.Logic.{dite}
@@ -37,7 +37,7 @@ pub part_length : (ns : List ℕ) → length (drop 1 ns) + length (take 1 ns) �
 part_length [] = refl
 part_length (x ∷ xs) = omega arith
 
--- A number is in a list where it stands there some times.
+-- A number that a list contains is counted at least once.
 times_at : (n : ℕ) (ns : List ℕ) (k : ℕ) → k < length ns → get_or ns k n ≡ n → 0 < times n ns
 times_at n [] k less is = absurd (omega arith)
 times_at n (x ∷ xs) zero less is = let e : cond {A = ℕ} (n == x) 1 0 ≡ 1 = ap (λ b. cond b 1 0) (eq-eqb n x (sym is)) in omega arith
@@ -54,7 +54,7 @@ contains_of n (x ∷ xs) h = dite (ℕ_discrete n x) (λ s. (0, omega arith, sym
     let less = c.1 in
     (suc c.0, omega arith, c.2))
 
--- What a part of the numbers contains all of them do.
+-- If a part of the numbers contains n, all of them do.
 pub taken_numbers : (ns : List ℕ) (n : ℕ) → Contains (take 1 ns) n → Contains ns n
 taken_numbers ns n c = contains_of n ns (let a = times_in n (take 1 ns) c in let p = part_times n ns in omega arith)
 
@@ -69,7 +69,7 @@ pub length_from : (k c : ℕ) → length (numbers_from k c) ≡ c
 length_from k zero = refl
 length_from k (suc c) = let h = length_from (suc k) c in omega arith
 
--- The numbers from k on are each once among themselves.
+-- Each number from k on is in the list just once.
 pub times_low : (n k c : ℕ) → n < k → times n (numbers_from k c) ≡ 0
 times_low n k zero h = refl
 times_low n k (suc c) h = let r = times_low n (suc k) c (omega arith) in let e : (n == k) ≡ false = ne_eqb n k (λ s. omega arith) in let f : cond {A = ℕ} (n == k) 1 0 ≡ 0 = ap (λ b. cond b 1 0) e in omega arith

@@ -1,4 +1,4 @@
--- What the rule says between two steps, and that a step which changes neither word, slot nor view keeps it.
+-- What the rule says between two steps; a step that changes no word, slot or view keeps it.
 use Rattle.std.proofs.Common.{◌≡◌, ℕ, suc, ◌+◌, ◌%◌, ◌<◌, ◌≤◌, ◌≢◌, List, [], ◌∷◌, ◌++◌, length, get_or, set, sym, ap, ◌∙◌, subst, arith}
 use Rattle.std.specs.Prelude.{Option, None, Contains}
 use Rattle.std.proofs.lemmas.List.{set-get_or}
@@ -24,7 +24,7 @@ module _ {K E B : Type 0} (entries : K → List (ℕ × E)) (base : K → B) whe
   abbrev V : Type 0
   V = View E B
 
-  -- a seat that is in no turn moves no slot
+  -- a seat that is in no turn doesn't move a slot
   pub phase_set : (homes : List (maybe.Option (Option K))) (vs : List V) (now : List (ℕ × E)) (b : B) (ph : Phase) (id : ℕ) (v w : V) → get_elem? vs id ≡ some v → v.noted ≡ None → InPhase entries base homes vs now b ph
       → InPhase entries base homes (set vs id w) now b ph
   phase_set homes vs now b home id v w at rests p = p
@@ -45,15 +45,15 @@ module _ {K E B : Type 0} (entries : K → List (ℕ × E)) (base : K → B) whe
   pub shared_no : (s : State (Option K) V) (r : IsByRule entries base s) (i j : ℕ) (v u : V) (m : ℕ) → i ≢ j → get_elem? s.views i ≡ some v → get_elem? s.views j ≡ some u → Contains v.sight.numbers m → Contains u.sight.numbers m → ⊥
   shared_no s r i j v u m apart a b h k = let t = total_two (λ (z : V). times m z.sight.numbers) s.views i j v u apart a b in let x = times_in m v.sight.numbers h in let y = times_in m u.sight.numbers k in let o = r.once m in let l = once_low m r.passes in omega arith
 
-  -- a load of which nothing comes
+  -- a load that changes nothing
   pub stays : (s : State (Option K) V) (i id : ℕ) (c : List (ℕ × Option K)) (v : V) → IsByRule entries base s → get_elem? s.views id ≡ some v → IsByRule entries base (stepped s i (get_or s.words i 0) id c v keeps)
   stays s i id c v r at = subst (λ (x : List ℕ × List V). IsByRule entries base record { words = x.0; homes = s.homes; views = x.1 }) (λ k. (sym (set-get_or s.words i 0) k, sym (set_again s.views id v at) k)) r
 
   pub out_of : (s : State (Option K) V) (r : IsByRule entries base s) (id : ℕ) → r.phase ≡ out id → s.homes ≡ none ∷ []
   out_of s r id is = (subst (InPhase entries base s.homes s.views r.now r.based) is r.in_phase).0
 
-  -- The rule stays where seats change and as many tickets are out: the words are as they were, each number is in one
-  -- seat, and each seat knows what it has to.
+  -- The rule still holds if only seats change and the number of tickets out stays: the words are as they were, each number is
+  -- in one seat, and each seat knows what it must know.
   pub reseated : (s : State (Option K) V) (r : IsByRule entries base s) (words : List ℕ) (homes : List (maybe.Option (Option K))) (vs : List V) (ph : Phase)
       → words ≡ s.words → total waits vs ≡ total waits s.views → total share vs ≡ r.passes → ((m : ℕ) → total (λ v. times m v.sight.numbers) vs ≡ once_below m r.passes)
       → ((j : ℕ) (u : V) → get_elem? vs j ≡ some u → Knows entries base r.now r.based r.passes r.serving (total waits s.views) ph j u) → HaveOwnTickets vs

@@ -1,4 +1,4 @@
--- What a sound seat is outside, and inside.
+-- What holds of a sound seat outside a turn, and inside one.
 use Rattle.std.proofs.Common.{◌≡◌, ℕ, Bool, true, false, cond, List, [], ◌∷◌, refl, subst}
 use Rattle.std.specs.Prelude.{Option, Some, None, IsSome}
 use Rattle.atomic_table.specs.Table.{Me}

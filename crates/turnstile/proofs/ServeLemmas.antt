@@ -1,4 +1,4 @@
--- A pass reads which ticket is served. Where it is its own, the slot is at home, and the pass takes it.
+-- A pass reads which ticket is served. If it is its own, the slot is at home, and the pass takes it.
 use Rattle.std.proofs.Common.{◌≡◌, ℕ, suc, List, [], ◌∷◌, get_or, set, sym, refl, ap, ◌∙◌, subst, arith}
 use Rattle.std.specs.Prelude.{Option, Some, None}
 use Rattle.std.proofs.lemmas.List.{set-get_or}

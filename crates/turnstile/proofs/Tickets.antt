@@ -1,4 +1,4 @@
--- Tickets go on modulo 2^64, and stand at a distance from the one that is served.
+-- Tickets are counted modulo 2^64; each has a distance from the one that is served.
 use Rattle.std.proofs.Common.{◌≡◌, ℕ, zero, suc, ◌+◌, ◌%◌, ◌<◌, ◌≤◌, ◌≢◌, sym, refl, ap, ◌∙◌, arith}
 use Rattle.std.specs.Prelude.{Option, Some, None}
 use Rattle.std.proofs.Math.Nat.{mod-add-mod, mod-eq_of_lt}

@@ -35,7 +35,7 @@ pub none_in : {A : Type 0} (l : List A) (i : ℕ) (a : A) → get_elem? l i ≡ 
 none_in [] i a e = absurd (some-ne-none a (sym e))
 none_in (x ∷ xs) i a e = omega arith
 
--- Where f of each is at most g of it, so are the sums.
+-- If f of each element is at most g of it, the same holds of the sums.
 pub total_le : {A : Type 0} (f g : A → ℕ) (xs : List A) → ((i : ℕ) (x : A) → get_elem? xs i ≡ some x → f x ≤ g x) → total f xs ≤ total g xs
 total_le f g [] h = omega arith
 total_le f g (x ∷ xs) h = let a = h zero x refl in let b = total_le f g xs (λ i y e. h (suc i) y e) in omega arith

@@ -1,4 +1,4 @@
--- What holds of all views after a step of one seat, from what holds of that seat and held of the others.
+-- What holds of all views after a step of one seat, from what holds of that seat after it and of the others before it.
 use Rattle.std.proofs.Common.{◌≡◌, ℕ, zero, suc, ◌≢◌, List, [], ◌∷◌, ◌++◌, set, sym, ap, ◌∙◌, subst, ⊎_elim}
 use Rattle.std.specs.Prelude.{Some, None}
 use Rattle.std.proofs.lemmas.Option.{none-some}

@@ -1,4 +1,4 @@
-//! The words and the slot of a turnstile, and the rule that holds of them between any two steps.
+//! The words and the slot of a turnstile, and the rule that they satisfy between any two steps.
 use crate::chronicles::Chronicle;
 use crate::views::View;
 use atomic_table::TableRule;

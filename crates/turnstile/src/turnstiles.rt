@@ -1,7 +1,8 @@
-//! A turnstile and its five calls. What a layer above knows of many threads is what these contracts say.
+//! A turnstile and its five calls. Their contracts are all that a layer above knows of its threads.
 //!
-//! In a clause a turnstile is which one it is, and a pass is a `TurnstilePass` (`specs/Passes`): `own` says that the pass is of this
-//! turnstile, `outside` that it is in no turn. `enter`, `leave`, `join` and `close` take no memory, and only `enter` waits.
+//! In a clause a turnstile is its identity, and a pass is a `TurnstilePass` (`specs/Passes`). `own` says that the pass is of
+//! this turnstile, `outside` that it is in no turn. `enter`, `leave`, `join` and `close` take no memory, and only `enter`
+//! waits.
 ghost use Rattle.std.specs.Prelude.{◌≡◌, ℕ, ◌<◌, length, slice_get, Contains, IfOk, IsSome, IfSome, Some, None};
 ghost use Rattle.turnstile.specs.PassEntries.{Below, Continues, Lengthens};
 ghost use Rattle.turnstile.specs.Passes.{newcomer, after_enter, after_leave, after_join};
@@ -20,10 +21,10 @@ use std::snapshot::Snapshot;
 use std::sync::Wait;
 use std::{hint, thread};
 
-/// How many times a wait looks again at once, before it yields.
+/// How many times a wait looks again at once before it yields.
 const SPINS: u32 = 100;
 
-/// A lock round one value, which goes from pass to pass.
+/// A lock around one value, which goes from pass to pass.
 #[derive(Drop)]
 pub struct Turnstile<K: Chronicle> {
     table: Table<Option<K>, View<K::Entry, K::Base>, About<K>, Rule, Global>,
@@ -43,8 +44,8 @@ impl<K: Chronicle> Model for Turnstile<K> {
     ghost invariant = { λ t. (t.table.shared.table_id.words ≡ 2) × (t.table.shared.table_id.slots ≡ 1) };
 }
 
-/// Lets others go on: the processor at first, and after some rounds the thread. Gives the number of rounds. No clause speaks
-/// of it.
+/// Lets others run: at first it only pauses the processor, and after some rounds it yields the thread. Gives the number of
+/// rounds. No clause mentions it.
 fn pause(rounds: u32) -> u32 {
     if rounds < SPINS {
         hint::spin_loop();
@@ -56,8 +57,8 @@ fn pause(rounds: u32) -> u32 {
 }
 
 impl<K: Chronicle + Drop> Turnstile<K> {
-    /// A turnstile round this value, and its passes, numbered from 0 in the order of the vector. Each has seen the value's
-    /// list. After `NoMemory` the value is dropped.
+    /// A turnstile around this value, and its passes, numbered from 0 in the order of the vector. Each pass has seen the
+    /// value's list. After `NoMemory` the value is dropped.
     pub fn new(
         alloc: Global,
         value: K,
@@ -83,10 +84,10 @@ impl<K: Chronicle + Drop> Turnstile<K> {
 }
 
 impl<K: Chronicle> Turnstile<K> {
-    /// Waits for the pass's turn and hands out the value. Its list begins with all that the pass has seen, and what follows
-    /// has none of the pass's own entries.
+    /// Waits for the pass's turn and gives the value. Its list begins with all that the pass has seen, and what follows has
+    /// none of the pass's own entries.
     pub fn enter<R: Wait>(&self, wait: &R, pass: &mut Pass<K>) -> Turn<K>
-        requires own { pass.old.gate ≡ self.now }
+        requires own { pass.old.turnstile ≡ self.now }
         requires outside { pass.old.turn ≡ None }
         ensures pass { pass.new ≡ after_enter pass.old (K.entries result.value) }
         ensures base { pass.old.base ≡ Some (K.base result.value) }
@@ -108,10 +109,10 @@ impl<K: Chronicle> Turnstile<K> {
         unreachable!()
     }
 
-    /// Puts the value back, and lets the next pass in. The pass has then seen the value's list, which begins with the one that
+    /// Puts the value back and lets the next pass in. The pass has then seen the value's list, which begins with the one that
     /// `enter` gave; each entry after that is the pass's own.
     pub fn leave(&self, pass: &mut Pass<K>, turn: Turn<K>)
-        requires own { pass.old.gate ≡ self.now }
+        requires own { pass.old.turnstile ≡ self.now }
         requires inside { IsSome pass.old.turn }
         requires base { pass.old.base ≡ Some (K.base turn.value) }
         requires list { IfSome pass.old.turn (λ given. Lengthens pass.old.numbers given (K.entries turn.value)) }
@@ -124,10 +125,10 @@ impl<K: Chronicle> Turnstile<K> {
         shared.fetch_add::<Leave>(&mut pass.seat, SERVING, 1);
     }
 
-    /// The pass stands for the numbers of both from now on, and has seen the longer of the two lists. It goes on from either
-    /// list by entries of passes other than the one that had that list.
+    /// From now on the pass stands for the numbers of both, and has seen the longer of the two lists. That list continues each
+    /// of the two by entries of passes other than the one that had seen it.
     pub fn join(&self, pass: &mut Pass<K>, other: Pass<K>)
-        requires own { (pass.old.gate ≡ self.now) × (other.gate ≡ self.now) }
+        requires own { (pass.old.turnstile ≡ self.now) × (other.turnstile ≡ self.now) }
         requires outside { (pass.old.turn ≡ None) × (other.turn ≡ None) }
         ensures pass { pass.new ≡ after_join pass.old other }
         ensures mine { Continues pass.old.numbers pass.old.seen pass.new.seen }
@@ -139,9 +140,9 @@ impl<K: Chronicle> Turnstile<K> {
         shared.load::<Compare>(&mut pass.seat, TICKETS);
     }
 
-    /// Gives the value for a pass that stands for all numbers. Its list is the one that the pass has seen.
+    /// Gives the value, for a pass that stands for all numbers. The value's list is the one that the pass has seen.
     pub fn close(self, pass: Pass<K>) -> K
-        requires own { pass.gate ≡ self }
+        requires own { pass.turnstile ≡ self }
         requires outside { pass.turn ≡ None }
         requires all { (n : ℕ) → n < pass.passes → Contains pass.numbers n }
         ensures list { K.entries result ≡ pass.seen }

@@ -1,6 +1,6 @@
-//! All workers at work, and the end: their passes are joined, and the list comes out.
+//! All workers at work, and the end: their passes are joined, and the list is given.
 //!
-//! `passes` and `mark` are what the turnstile was made with; the calls take them for their contracts alone.
+//! `passes` and `mark` are what the turnstile was made with; the calls take them only for their contracts.
 ghost use Rattle.std.specs.Prelude.{◌≡◌, ℕ, ◌<◌, [], ◌∷◌, length, slice_get, slice_index_or, All, IfOk, None, Some};
 ghost use Rattle.turnstile_tests.specs.Workers.{IsReady, InOrder};
 
@@ -16,12 +16,12 @@ use turnstile::{Pass, Turnstile};
 /// Gives each pass to a worker, in the order of their numbers.
 pub fn hire(
     alloc: Global,
-    gate: &Turnstile<Pairs>,
+    turnstile: &Turnstile<Pairs>,
     mut passes: Vec<Pass<Pairs>>,
     mark: u64,
 ) -> Result<Vec<Worker>, NoMemory>
-    requires each { (k : ℕ) (p : _) → slice_get passes.items k ≡ Some p → (p.gate ≡ gate.now) × (p.passes ≡ length passes.items) × (p.base ≡ Some mark) × (p.numbers ≡ k ∷ []) × (p.turn ≡ None) }
-    ensures ready { IfOk result (λ workers. All (λ w. IsReady gate.now (length passes.items) mark w) workers.items) }
+    requires each { (k : ℕ) (p : _) → slice_get passes.items k ≡ Some p → (p.turnstile ≡ turnstile.now) × (p.passes ≡ length passes.items) × (p.base ≡ Some mark) × (p.numbers ≡ k ∷ []) × (p.turn ≡ None) }
+    ensures ready { IfOk result (λ workers. All (λ w. IsReady turnstile.now (length passes.items) mark w) workers.items) }
     ensures order { IfOk result (λ workers. (length workers.items ≡ length passes.items) × InOrder workers.items) }
 {
     let mut workers = Vec::new(alloc);
@@ -40,7 +40,7 @@ pub fn hire(
 /// Lets each worker make its turns, on `threads` threads.
 pub fn work_all<R: Threads + Wait + Sync>(
     rt: &R,
-    gate: &Turnstile<Pairs>,
+    turnstile: &Turnstile<Pairs>,
     passes: u32,
     mark: u64,
     workers: &mut [Worker],
@@ -48,22 +48,27 @@ pub fn work_all<R: Threads + Wait + Sync>(
     turns: Turns,
 )
     requires some { 0 < threads }
-    requires ready { All (λ w. IsReady gate.now passes mark w) workers.old }
-    ensures ready { All (λ w. IsReady gate.now passes mark w) workers.new }
+    requires ready { All (λ w. IsReady turnstile.now passes mark w) workers.old }
+    ensures ready { All (λ w. IsReady turnstile.now passes mark w) workers.new }
     ensures same { (k : ℕ) (d : _) → k < length workers.old → (slice_index_or workers.new k d).by ≡ (slice_index_or workers.old k d).by }
 {
     thread::for_each_mut(
         rt,
         workers,
         threads,
-        &|_, w| { w.work(rt, gate, passes, mark, turns) },
+        &|_, w| { w.work(rt, turnstile, passes, mark, turns) },
     );
 }
 
 /// Joins all passes, the last one first, and gives the list.
-pub fn finish(gate: Turnstile<Pairs>, mut workers: Vec<Worker>, passes: u32, mark: u64) -> Pairs
+pub fn finish(
+    turnstile: Turnstile<Pairs>,
+    mut workers: Vec<Worker>,
+    passes: u32,
+    mark: u64,
+) -> Pairs
     requires some { 0 < passes }
-    requires ready { All (λ w. IsReady gate passes mark w) workers.items }
+    requires ready { All (λ w. IsReady turnstile passes mark w) workers.items }
     requires order { (length workers.items ≡ passes) × InOrder workers.items }
     ensures mark { result.mark ≡ mark }
 {
@@ -71,9 +76,9 @@ pub fn finish(gate: Turnstile<Pairs>, mut workers: Vec<Worker>, passes: u32, mar
         unreachable!()
     };
     while let Some(Worker { pass, .. }) = workers.pop() {
-        gate.join(&mut all, pass);
+        turnstile.join(&mut all, pass);
     }
-    gate.close(all)
+    turnstile.close(all)
 }
 
 /// Whether each worker's last turns all had memory.
@@ -86,8 +91,8 @@ fn all_done(workers: &[Worker]) -> bool {
     true
 }
 
-/// Makes a turnstile of `passes` passes round an empty list, and lets each pass make `turns` turns, on `threads` threads: the list at
-/// the end, or `NoMemory` where a turn had none.
+/// Makes a turnstile of `passes` passes around an empty list, and lets each pass make `turns` turns, on `threads` threads.
+/// Gives the list at the end, or `NoMemory` if a turn had none.
 pub fn play<R: Threads + Wait + Sync>(
     rt: &R,
     alloc: Global,
@@ -100,11 +105,11 @@ pub fn play<R: Threads + Wait + Sync>(
     ensures mark { IfOk result (λ pairs. pairs.mark ≡ mark) }
 {
     let items = Vec::new(alloc);
-    let (gate, all) = Turnstile::new(alloc, Pairs { items, mark }, passes)?;
-    let mut workers = hire(alloc, &gate, all, mark)?;
+    let (turnstile, all) = Turnstile::new(alloc, Pairs { items, mark }, passes)?;
+    let mut workers = hire(alloc, &turnstile, all, mark)?;
     work_all(
         rt,
-        &gate,
+        &turnstile,
         passes,
         mark,
         workers.as_mut_slice(),
@@ -114,5 +119,5 @@ pub fn play<R: Threads + Wait + Sync>(
     if !all_done(&workers) {
         return Err(NoMemory);
     }
-    Ok(finish(gate, workers, passes, mark))
+    Ok(finish(turnstile, workers, passes, mark))
 }

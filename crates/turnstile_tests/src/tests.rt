@@ -1,4 +1,4 @@
-//! The lists that come out: as many pairs as turns were made, and the pairs of each pass in its order.
+//! The lists at the end: as many pairs as turns were made, and the pairs of each pass in its order.
 ghost use Rattle.std.specs.Prelude.{◌≡◌, ◌<◌, ℕ, length, slice_index_or, All};
 ghost use Rattle.turnstile_tests.specs.Workers.{IsReady};
 
@@ -20,7 +20,7 @@ struct Case {
     turns: u64,
 }
 
-/// Whether the pairs of this number count from 0 to the turns, one after the other.
+/// Whether the pairs of this number count from 0 to the number of turns, one after another.
 fn counts(pairs: &[(u64, u64)], by: u64, turns: u64) -> bool {
     let mut next = 0_u64;
     for &(number, value) in pairs {
@@ -34,7 +34,7 @@ fn counts(pairs: &[(u64, u64)], by: u64, turns: u64) -> bool {
     next == turns
 }
 
-/// How many pairs there are, and the first pass whose pairs do not count.
+/// How many pairs there are, and the first pass whose pairs don't count.
 fn read(pairs: &[(u64, u64)], case: &Case) -> (usize, Option<u64>) {
     for by in 0..u64::from(case.passes) {
         if !counts(pairs, by, case.turns) {
@@ -89,24 +89,32 @@ fn sixteen_passes_are_joined_from_the_last_to_the_first(rt: HostRuntime) -> Resu
 /// Lets each worker go through fifty times before its turns and fifty times after them.
 fn go_and_work<R: Threads + Wait + Sync>(
     rt: &R,
-    gate: &Turnstile<Pairs>,
+    turnstile: &Turnstile<Pairs>,
     passes: u32,
     workers: &mut [Worker],
     threads: usize,
     turns: u64,
 )
     requires some { 0 < threads }
-    requires ready { All (λ w. IsReady gate.now passes 6 w) workers.old }
-    ensures ready { All (λ w. IsReady gate.now passes 6 w) workers.new }
+    requires ready { All (λ w. IsReady turnstile.now passes 6 w) workers.old }
+    ensures ready { All (λ w. IsReady turnstile.now passes 6 w) workers.new }
     ensures same { (k : ℕ) (d : _) → k < length workers.old → (slice_index_or workers.new k d).by ≡ (slice_index_or workers.old k d).by }
 {
-    work_all(rt, gate, passes, 6, workers, threads, Turns::Idle(50));
-    work_all(rt, gate, passes, 6, workers, threads, Turns::Adding(turns));
-    work_all(rt, gate, passes, 6, workers, threads, Turns::Idle(50));
+    work_all(rt, turnstile, passes, 6, workers, threads, Turns::Idle(50));
+    work_all(
+        rt,
+        turnstile,
+        passes,
+        6,
+        workers,
+        threads,
+        Turns::Adding(turns),
+    );
+    work_all(rt, turnstile, passes, 6, workers, threads, Turns::Idle(50));
 }
 
-/// A turnstile round an empty list, through which each pass goes beside its turns: the mark at the end, and what `read`
-/// finds.
+/// A turnstile around an empty list, through which each pass also goes before and after its turns: the mark at the end, and
+/// what `read` finds.
 fn gone_through<R: Threads + Wait + Sync>(
     rt: &R,
     alloc: Global,
@@ -116,17 +124,17 @@ fn gone_through<R: Threads + Wait + Sync>(
 {
     let (passes, threads) = (case.passes, case.threads);
     let items = Vec::new(alloc);
-    let (gate, all) = Turnstile::new(alloc, Pairs { items, mark: 6 }, passes)?;
-    let mut workers = hire(alloc, &gate, all, 6)?;
+    let (turnstile, all) = Turnstile::new(alloc, Pairs { items, mark: 6 }, passes)?;
+    let mut workers = hire(alloc, &turnstile, all, 6)?;
     go_and_work(
         rt,
-        &gate,
+        &turnstile,
         passes,
         workers.as_mut_slice(),
         threads,
         case.turns,
     );
-    let pairs = finish(gate, workers, passes, 6);
+    let pairs = finish(turnstile, workers, passes, 6);
     let (count, other) = read(pairs.items.as_slice(), case);
     Ok((pairs.mark, count, other))
 }

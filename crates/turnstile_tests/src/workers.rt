@@ -26,74 +26,79 @@ pub enum Turns {
 /// One turn: the list gets the pair of this number and the value, and the pass has seen it.
 pub fn add<R: Wait>(
     wait: &R,
-    gate: &Turnstile<Pairs>,
+    turnstile: &Turnstile<Pairs>,
     pass: &mut Pass<Pairs>,
     by: u64,
     value: u64,
 ) -> Result<(), NoMemory>
-    requires own { pass.old.gate ≡ gate.now }
+    requires own { pass.old.turnstile ≡ turnstile.now }
     requires outside { pass.old.turn ≡ None }
     requires number { pass.old.numbers ≡ by ∷ [] }
     ensures pass { IsSamePass pass.old pass.new }
     ensures added { IfOk result (λ _. (others : _) × (pass.new.seen ≡ (pass.old.seen ++ others) ++ (by, value) ∷ []) × Foreign (by ∷ []) others) }
 {
-    let Turn { value: mut pairs } = gate.enter(wait, pass);
+    let Turn { value: mut pairs } = turnstile.enter(wait, pass);
     let pushed = pairs.items.push((by, value));
-    gate.leave(pass, Turn { value: pairs });
+    turnstile.leave(pass, Turn { value: pairs });
     pushed?;
     Ok(())
 }
 
-/// So many turns, numbered from 0.
+/// Makes this many turns, numbered from 0.
 pub fn fill<R: Wait>(
     wait: &R,
-    gate: &Turnstile<Pairs>,
+    turnstile: &Turnstile<Pairs>,
     pass: &mut Pass<Pairs>,
     by: u64,
     turns: u64,
 ) -> Result<(), NoMemory>
-    requires own { pass.old.gate ≡ gate.now }
+    requires own { pass.old.turnstile ≡ turnstile.now }
     requires outside { pass.old.turn ≡ None }
     requires number { pass.old.numbers ≡ by ∷ [] }
     ensures pass { IsSamePass pass.old pass.new }
 {
     for value in 0..turns {
-        add(wait, gate, pass, by, value)?;
+        add(wait, turnstile, pass, by, value)?;
     }
     Ok(())
 }
 
-/// So many turns that add nothing.
-pub fn go_through<R: Wait>(wait: &R, gate: &Turnstile<Pairs>, pass: &mut Pass<Pairs>, turns: u64)
-    requires own { pass.old.gate ≡ gate.now }
+/// Makes this many turns that add nothing.
+pub fn go_through<R: Wait>(
+    wait: &R,
+    turnstile: &Turnstile<Pairs>,
+    pass: &mut Pass<Pairs>,
+    turns: u64,
+)
+    requires own { pass.old.turnstile ≡ turnstile.now }
     requires outside { pass.old.turn ≡ None }
     ensures pass { IsSamePass pass.old pass.new }
 {
     for _ in 0..turns {
-        let turn = gate.enter(wait, pass);
-        gate.leave(pass, turn);
+        let turn = turnstile.enter(wait, pass);
+        turnstile.leave(pass, turn);
     }
 }
 
 impl Worker {
-    /// Makes all its turns.
+    /// Makes all turns of the worker.
     pub fn work<R: Wait>(
         &mut self,
         wait: &R,
-        gate: &Turnstile<Pairs>,
+        turnstile: &Turnstile<Pairs>,
         passes: u32,
         mark: u64,
         turns: Turns,
     )
-        requires ready { IsReady gate.now passes mark self.old }
-        ensures ready { IsReady gate.now passes mark self.new }
+        requires ready { IsReady turnstile.now passes mark self.old }
+        ensures ready { IsReady turnstile.now passes mark self.new }
         ensures by { self.new.by ≡ self.old.by }
     {
         match turns {
             Turns::Adding(turns) => {
-                self.done = fill(wait, gate, &mut self.pass, self.by, turns).is_ok();
+                self.done = fill(wait, turnstile, &mut self.pass, self.by, turns).is_ok();
             }
-            Turns::Idle(turns) => go_through(wait, gate, &mut self.pass, turns),
+            Turns::Idle(turns) => go_through(wait, turnstile, &mut self.pass, turns),
         }
     }
 }

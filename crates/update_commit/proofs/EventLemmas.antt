@@ -1,4 +1,4 @@
--- One more event of a list: how many starts and commits it then has, and what comes after its last start.
+-- One more event in a list: how many starts and commits the list then has, and what comes after its last start.
 use Rattle.std.proofs.Common.{◌≡◌, ◌≢◌, ℕ, ◌+◌, ◌≤◌, Bool, true, false, cond, ◌==◌, List, [], ◌∷◌, ◌++◌, length, drop, refl, sym, ◌∙◌, ap, arith}
 use Rattle.std.specs.Prelude.{◌||◌}
 use Rattle.std.specs.List.{list_any}

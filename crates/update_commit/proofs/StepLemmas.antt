@@ -1,4 +1,4 @@
--- One more event of a core: its values and counts, and the reply to a commit.
+-- One more event in a core: its values and counts, and the reply to a commit.
 use Rattle.std.proofs.Common.{◌≡◌, ℕ, suc, ◌+◌, ◌<◌, List, [], ◌∷◌, ◌++◌, length, get_or, set, take, map, All, refl, sym, ◌∙◌, ap, inl, inr, arith, length-append}
 use Rattle.std.proofs.lemmas.Bool.{cases_eq}
 use Rattle.std.proofs.lemmas.List.{get_or-set_same, get_or-set_other, get_or_push, take-append-le, take_all}
@@ -19,7 +19,7 @@ use Rattle.update_commit.proofs.EventLemmas.{made_own, made_other}
 
 -- ---- lists of values
 
--- A list that has f of each element in its place is the map.
+-- A list that has f of each element at the element's place is the map.
 pub map_by_all : {X Y : Type 0} (f : X → Y) (xs : List X) (ys : List Y) (e : Y) → length ys ≡ length xs → ((k : ℕ) (d : X) → k < length xs → get_or ys k e ≡ f (get_or xs k d)) → ys ≡ map f xs
 map_by_all f [] [] e n h = refl
 map_by_all f [] (y ∷ ys) e n h = absurd (omega arith)
@@ -28,7 +28,7 @@ map_by_all f (x ∷ xs) (y ∷ ys) e n h =
     let here : y ≡ f x = h 0 x (omega arith) in
     let rest : ys ≡ map f xs = map_by_all f xs ys e (omega arith) (λ k d l. h (suc k) d (omega arith)) in cc
 
--- Functions that agree on each element of a list make the same of it.
+-- Functions that agree on each element of a list give the same list.
 pub map_same : {X Y : Type 0} (f g : X → Y) (xs : List X) → ((x : X) → f x ≡ g x) → map f xs ≡ map g xs
 map_same f g [] same = refl
 map_same f g (x ∷ xs) same = let here : f x ≡ g x = same x in let rest : map f xs ≡ map g xs = map_same f g xs same in cc

@@ -15,8 +15,8 @@ core_in c = record {
   spare = vec_capacity c.events - length c.events.items;
 }
 
--- Values, counts and cycle are those after the events, the mark is where the events after the last start begin, and each
--- event fits.
+-- Values, counts and cycle are those after the events; the mark is where the events after the last start begin; each event
+-- fits.
 pub record IsCore (c : Inside) : Type 0 where
   pub sized : length c.values.items ≡ length c.first_values.items
   pub values : (i : ℕ) → get_or c.values.items i 0 ≡ table (values_of c.first_values.items) c.events.items i

@@ -2,8 +2,8 @@
 use Rattle.std.specs.Prelude.{ℕ, List, [], ◌∷◌, ◌++◌, ◌-◌}
 use Rattle.air_history.specs.declared.histories.Event.{Event}
 
--- The events of the history, the values before the first of them, the number of updaters, and for how many more events
--- there is room.
+-- The events of the history, the values before the first of them, the number of updaters, and how many more events there is
+-- room for.
 pub record CoreState : Type 0 where
   pub events : List Event
   pub values : List ℕ

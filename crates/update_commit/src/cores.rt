@@ -1,8 +1,8 @@
-//! The core: the events of one history, and beside them the current values, each updater's number of commits, the number of
+//! The core: the events of one history, and with them the current values, each updater's number of commits, the number of
 //! starts, and where the events after the last start begin.
 //!
-//! Contracts see a core as a `CoreState`: its events, the values and the number of updaters that it was made with, and for how
-//! many more events it has room. Every event fits these.
+//! Contracts see a core as a `CoreState`: its events, the values and the number of updaters that it was made with, and how many
+//! more events it has room for. Every event fits these.
 
 ghost use Rattle.std.specs.Prelude.{◌≡◌, ◌<◌, ◌≤◌, ◌^◌, ◌-◌, [], ◌++◌, length, All, IfOk, OnErr, MatchResult};
 ghost use Rattle.air_history.specs.declared.histories.Event.TheVariants.{Commit, Start};
@@ -57,7 +57,7 @@ impl Core {
         })
     }
 
-    /// Makes room for so many more events.
+    /// Makes room for this many more events.
     pub fn reserve(&mut self, events: usize) -> Result<(), NoMemory>
         ensures spare { IfOk result (λ _. events ≤ self.new.spare) }
         ensures refused { OnErr result (self.new ≡ self.old) }
@@ -67,7 +67,7 @@ impl Core {
         Ok(())
     }
 
-    /// Adds the updater's next commit, and says in the receipt what it did. `Update::fits` is the test for `fits`.
+    /// Adds the updater's next commit, and writes to the receipt what it did. `Update::fits` is the test for `fits`.
     pub fn commit(&mut self, by: u32, update: Update, into: &mut Receipt)
         requires spare { 0 < self.old.spare }
         requires by { by < self.old.updaters }
@@ -111,7 +111,7 @@ impl Core {
         done
     }
 
-    /// The present value of an item.
+    /// The current value of an item.
     pub fn value(&self, i: u16) -> u64
         requires { i < length self.now.values }
         ensures { result ≡ table (values_of self.now.values) self.now.events i }
@@ -133,7 +133,7 @@ impl Core {
         History::from_events(self.events)
     }
 
-    /// Hands to a caller's proof that each event fits; it does nothing.
+    /// For proofs only: tells the caller that each event fits. It does nothing at run time.
     pub fn shows_events_fit(&self)
         ensures { All (EventFits self.now.updaters (length self.now.values)) self.now.events }
     {
@@ -155,7 +155,7 @@ fn copy_event(alloc: Global, event: &Event) -> Result<Event, NoMemory>
     }
 }
 
-/// Puts copies of the events behind those of the list.
+/// Puts copies of the events after those of the list.
 fn copy_all(alloc: Global, events: &[Event], out: &mut Vec<Event>) -> Result<(), NoMemory>
     ensures { IfOk result (λ _. out.new.items ≡ out.old.items ++ events.now) }
 {

@@ -22,7 +22,7 @@ pub struct Receipt {
     pub written: Values,
 }
 
-/// So many zeros.
+/// This many zeros.
 fn zeros(alloc: Global, count: usize) -> Result<Values, NoMemory>
     ensures { IfOk result (λ values. length values ≡ count) }
 {
@@ -65,7 +65,7 @@ fn copy_written(values: &[u64], writes: &[Write], into: &mut Values)
     }
 }
 
-/// Runs the event on the values, and puts those that it read and those that it wrote into the receipt.
+/// Runs the event on the values, and puts the values that it read and those that it wrote into the receipt.
 #[tactic(auto, using(crate::proofs::StepLemmas::reads_within, crate::proofs::StepLemmas::writes_within))]
 pub(crate) fn run_and_answer(values: &mut [u64], event: &Event, into: &mut Receipt)
     requires fits { ItemsFit (length values.old) event.now }

@@ -1,4 +1,4 @@
--- What a history airs in a cycle was written before it: each entry of a vector is below the vector's cycle, also as ages tell it.
+-- What a history airs in a cycle was written before it: each entry of a vector is below the vector's cycle, also as ages give it.
 use Rattle.std.proofs.Common.{◌≡◌, ◌≢◌, ℕ, ◌<◌, ◌≤◌, List, get_or, All, Option, Some, None, refl, sym, ◌∙◌, subst}
 use Rattle.std.specs.Option.{option_map_or}
 use Rattle.air_history.specs.declared.histories.Event.{Event}
@@ -22,7 +22,7 @@ entry_before : (H : List Event) (c i : ℕ) → 1 ≤ c → vector_entry (front 
 unfolding vector_entry
 entry_before H c i pos = cycle_before H c i pos (writer (front H c) i) refl
 
--- Under a scheme that airs the write vector.
+-- The same under a scheme that airs the write vector.
 pub vector_is_new : (scheme : Scheme) (held : HeldReads) (H : List Event) (x : HeardRead) → ((i : ℕ) → aired_entry scheme held.n H x i ≡ get_or (vector held.n (front H x.cycle)) i 0) →
     HasCappedEntries scheme held.n H x → All (λ r. r.item ≢ x.item) held.reads → IsNew held x
 vector_is_new scheme held H x airs heard free = record {

@@ -5,14 +5,14 @@ use Rattle.air_base.specs.declared.verdicts.Policy.TheVariants.{Datacycle, RMatr
 use Rattle.air_history.specs.Clashes.{HeardRead, entry_of, entry_in, heard_clash, newest_heard, first_heard, clash_by_entries}
 use Rattle.held_reads.specs.Searches.{is_reached}
 
--- Datacycle, where the new cycle is the newest.
+-- Datacycle, if the new cycle is the newest.
 pub named_at_newest : (R : List HeardRead) (x : HeardRead) → newest_heard R ≤ x.cycle → clash_by_entries Datacycle R x ≡ heard_clash (is_reached x.entries) R
 unfolding clash_by_entries
 named_at_newest R x le =
     let t : nat_le (newest_heard R) x.cycle ≡ true = grind arith in
     cond-true (nat_le (newest_heard R) x.cycle) _ _ t
 
--- And where it isn't, and the vector of the newest held cycle has the new item below the new cycle.
+-- Datacycle, if it isn't, and the vector of the newest held cycle has the new item below the new cycle.
 pub none_at_newest : (R : List HeardRead) (x : HeardRead) → x.cycle < newest_heard R → entry_in R (newest_heard R) x.item < x.cycle → clash_by_entries Datacycle R x ≡ None
 unfolding clash_by_entries
 none_at_newest R x lt below =
@@ -20,7 +20,7 @@ none_at_newest R x lt below =
     let g : nat_le x.cycle (entry_in R (newest_heard R) x.item) ≡ false = grind arith in
     cond-false (nat_le (newest_heard R) x.cycle) _ _ f ∙ cond-false (nat_le x.cycle (entry_in R (newest_heard R) x.item)) _ _ g
 
--- And where it has it at the new cycle or later.
+-- Datacycle, if it isn't, and that vector has the new item at the new cycle or later.
 pub named_of_newest : (R : List HeardRead) (x : HeardRead) → x.cycle < newest_heard R → x.cycle ≤ entry_in R (newest_heard R) x.item →
     clash_by_entries Datacycle R x ≡ heard_clash (λ r. r.cycle == newest_heard R) R
 unfolding clash_by_entries
@@ -29,14 +29,14 @@ named_of_newest R x lt above =
     let t : nat_le x.cycle (entry_in R (newest_heard R) x.item) ≡ true = grind arith in
     cond-false (nat_le (newest_heard R) x.cycle) _ _ f ∙ cond-true (nat_le x.cycle (entry_in R (newest_heard R) x.item)) _ _ t
 
--- R-Matrix, where the new vector has the new item below the first held cycle.
+-- R-Matrix, if the new vector has the new item below the first held cycle.
 pub none_below_first : (R : List HeardRead) (x : HeardRead) → entry_of x x.item < first_heard R → clash_by_entries RMatrix R x ≡ None
 unfolding clash_by_entries
 none_below_first R x below =
     let f : nat_le (first_heard R) (entry_of x x.item) ≡ false = grind arith in
     cond-false (nat_le (first_heard R) (entry_of x x.item)) _ _ f
 
--- And where it doesn't.
+-- R-Matrix, if it doesn't.
 pub named_from_first : (R : List HeardRead) (x : HeardRead) → first_heard R ≤ entry_of x x.item → clash_by_entries RMatrix R x ≡ heard_clash (is_reached x.entries) R
 unfolding clash_by_entries
 named_from_first R x above =

@@ -1,7 +1,7 @@
 //! The check of Datacycle, by write vectors: held reads stay current at the newest cycle with the new one.
 //!
-//! Where the new cycle is the newest the new vector decides, else that of the first held read of the newest cycle. A receiver's
-//! attempts stand on the check.
+//! If the new cycle is the newest, the new vector decides; otherwise that of the first held read of the newest cycle. A
+//! receiver's attempts use this check.
 
 ghost use Rattle.air_base.specs.declared.verdicts.Policy.TheVariants.{Datacycle};
 
@@ -15,7 +15,7 @@ pub struct DatacycleCheck;
 impl PolicyCheck for DatacycleCheck {
     ghost policy = { Datacycle };
 
-    /// The held read of least item number that is stale at the newest cycle.
+    /// The held read with the least item number that is stale at the newest cycle.
     #[tactic(auto, using(crate::proofs::PolicyLemmas::named_at_newest, crate::proofs::PolicyLemmas::none_at_newest, crate::proofs::PolicyLemmas::named_of_newest))]
     fn clash(held: &HeldEntries, item: u16, cycle: u32, vector: &[u32]) -> Option<Clash> {
         let newest = held.newest();

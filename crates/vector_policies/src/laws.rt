@@ -1,4 +1,4 @@
-//! The law of held reads, carried by a function that does nothing.
+//! The law of held reads, the contract of a function that does nothing.
 
 ghost use Rattle.std.specs.Prelude.{◌≢◌, List, All};
 ghost use Rattle.air_base.specs.declared.verdicts.Policy.TheVariants.{Datacycle, RMatrix};
@@ -8,7 +8,7 @@ ghost use Rattle.air_history.specs.ClashLaws.{HasAiredEntries, HasCappedEntries}
 ghost use Rattle.air_history.specs.Columns.{scheme_of};
 ghost use Rattle.air_history.specs.HeldReads.{HeldReads, IsNew};
 
-/// Each read whose vector a history has at its cycle, in full or as ages tell it, may be tried, if its item isn't held.
+/// A read may be tried if its item isn't held and a history has its vector at its cycle, in full or as ages give it.
 pub fn aired_is_new_law()
     ensures capped_datacycle { (held : HeldReads) (H : List Event) (x : HeardRead) →
         HasCappedEntries (scheme_of Datacycle) held.n H x → All (λ r. r.item ≢ x.item) held.reads → IsNew held x }

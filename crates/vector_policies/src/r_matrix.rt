@@ -1,7 +1,7 @@
-//! The check of R-Matrix, by write vectors: reads come in the order of cycles, and a read is taken where no held one is stale at its
-//! cycle, or where its item wasn't written since the first held cycle.
+//! The check of R-Matrix, by write vectors: reads come in the order of cycles. A read is taken if no held one is stale at its
+//! cycle, or if its item wasn't written since the first held cycle.
 //!
-//! A receiver's attempts stand on the check.
+//! A receiver's attempts use this check.
 
 ghost use Rattle.air_base.specs.declared.verdicts.Policy.TheVariants.{RMatrix};
 
@@ -15,8 +15,8 @@ pub struct RMatrixCheck;
 impl PolicyCheck for RMatrixCheck {
     ghost policy = { RMatrix };
 
-    /// The held read of least item number that is stale at the new cycle; none where the new item wasn't written since the first
-    /// held cycle.
+    /// The held read with the least item number that is stale at the new cycle; None if the new item wasn't written since the
+    /// first held cycle.
     #[tactic(auto, using(crate::proofs::PolicyLemmas::none_below_first, crate::proofs::PolicyLemmas::named_from_first))]
     fn clash(held: &HeldEntries, item: u16, _cycle: u32, vector: &[u32]) -> Option<Clash> {
         if vector[item as usize] < held.first() {

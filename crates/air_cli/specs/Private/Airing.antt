@@ -1,4 +1,4 @@
--- For private steps alone. Why a deck that has plans isn't cast, and why its readers don't report of what they hear.
+-- For private steps alone. Why a deck that has plans isn't cast, and why its readers don't report on what they hear.
 use Rattle.std.specs.Prelude.{◌≡◌, ◌≤◌, ℕ, ⊤}
 use Rattle.air_base.specs.declared.limits.TheConstants.{MOST_TAPE_BYTES}
 use Rattle.air_cli.specs.declared.commands.hearings.HearFault.{HearFault}
@@ -21,8 +21,7 @@ abbrev pub cast_status : RunFault → Status
 cast_status (run.Mast sent) = status.AirFault sent
 cast_status run.NoMemory = status.NoMemory
 
--- Why a deck that has plans isn't cast: the tape of its run would be too long, and the mast is as it was; or it wouldn't be, and
--- the mast failed.
+-- Why a deck that has plans isn't cast. The tape of its run would be too long, and the mast is as it was; or it would not, and the mast failed.
 unfoldable pub IsCastRefusal : Deck → ℕ → MastState → MastState → Status → Type 0
 IsCastRefusal d to before now (status.TooLong bytes) = IsLongRun d bytes × (now ≡ before)
 IsCastRefusal d to before now (status.AirFault at) = (run_tape_len d ≤ MOST_TAPE_BYTES) × IsBrokenCast d to at before now
@@ -31,7 +30,7 @@ IsCastRefusal d to before now other = ⊥
 
 -- ---- listen
 
--- The status where not all was heard.
+-- The status if not everything was heard.
 abbrev pub hear_status : HearFault → Status
 hear_status (hear.Ear heard) = status.AirFault heard
 hear_status hear.NoMemory = status.NoMemory

@@ -1,4 +1,4 @@
--- For private steps alone. What the functions say that make a command's text and tape. It is the step before delivery.
+-- For private steps alone. The answers of the functions that make a command's text and tape, before delivery.
 use Rattle.std.specs.Prelude.{◌≡◌, ◌≢◌, ℕ, List}
 use Rattle.std.specs.Io.KnownBytes.{IsAtEnd}
 use Rattle.air_devices.specs.Counts.{KeepsCounts, NoCountFalls}
@@ -15,12 +15,12 @@ pub record IsMade (command : Meaning) (before now : ShelfState) (given : ReportA
   pub read : (name : List ℕ) → command.IsInput name → IsAtEnd (now.told.left name)
   pub calm : KeepsCounts before.faults now.faults
 
--- The command is refused with this status; every count is as it was, but where a read failed.
+-- The command is refused with this status; every count is as it was, unless a read failed.
 pub record IsUnmade (command : Meaning) (before now : ShelfState) (s : Status) : Type 0 where
   pub cause : command.Refuses before now s
   pub kept : s ≢ status.ReadFault → KeepsCounts before.faults now.faults
 
--- Reading changes what is left of the named inputs alone; no count of faults falls.
+-- Reading changes only what is left of the named inputs; no count of faults goes down.
 pub record ReadsInputs (command : Meaning) (before now : ShelfState) : Type 0 where
   pub files : (name : List ℕ) → now.told.file name ≡ before.told.file name
   pub left : (name : List ℕ) → (command.IsInput name → ⊥) → now.told.left name ≡ before.told.left name

@@ -1,4 +1,4 @@
--- For private steps alone. How a command ends once what it gives was made, or wasn't: told of the shelf at that moment, and at the end.
+-- For private steps alone. How a command ends after it made something, or didn't: by the shelf at that moment, and at the end.
 use Rattle.std.specs.Prelude.{◌≡◌, ◌≢◌, ◌⊎◌, ℕ, List, Option}
 use Rattle.air_devices.specs.Counts.{NoCountFalls}
 use Rattle.air_devices.specs.Shelves.{ShelfState}
@@ -22,6 +22,6 @@ pub record EndsRefused (s : Status) (before now : ShelfState) (answer : Status) 
   pub rest : KeepsButPrinted before.told now.told
   pub counts : NoCountFalls before.faults now.faults
 
--- Nothing was made, for this status: it is out of memory, which is answered, and nothing more was done; or its line was printed.
+-- Nothing was made, for this status. If it is out of memory, this is answered and nothing more was done; else its line was printed.
 abbrev pub EndsUnmade : Status → ShelfState → ShelfState → Status → Type 0
 EndsUnmade s before now answer = ((s ≡ status.NoMemory) × (answer ≡ status.NoMemory) × (now ≡ before)) ⊎ EndsRefused s before now answer

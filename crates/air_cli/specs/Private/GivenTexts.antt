@@ -1,4 +1,4 @@
--- For private steps alone. What each command gives, by a name.
+-- For private steps alone. A name for what each command gives.
 use Rattle.std.specs.Prelude.{ℕ, false, List, []}
 use Rattle.air_model.specs.Decks.{Deck}
 use Rattle.air_model.specs.Outputs.{cast_output, plan_output, run_output, run_tape, script_output, script_tape}

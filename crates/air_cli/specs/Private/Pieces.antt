@@ -9,13 +9,12 @@ use Rattle.air_report.specs.declared.status.Status.{Status}
 use Rattle.air_report.specs.declared.status.Status.TheVariants as status
 use Rattle.listeners.specs.Listeners.{Listener, hears}
 
--- The bytes that were read and not let go, and how many there is room for in all.
+-- The bytes that were read and not dropped, and the number of bytes that there is room for.
 pub record PieceBytes : Type 0 where
   pub bytes : List ℕ
   pub room : ℕ
 
--- So many bytes came behind those that were there, from the front of what was left of the file, where that is told; none only at its
--- end.
+-- A read added n bytes after those before. They are from the beginning of what was left of the file, if that is told. There are none only at its end.
 pub record HasCome (n : ℕ) (before after : List ℕ) (left later : Option (List ℕ)) : Type 0 where
   pub bytes : List ℕ
   pub count : length bytes ≡ n
@@ -23,22 +22,21 @@ pub record HasCome (n : ℕ) (before after : List ℕ) (left later : Option (Lis
   pub taken : Consumes left later bytes
   pub end : n ≡ 0 → IsAtEnd later
 
--- Nothing, or what ends inside its first record: no whole record is at its front.
+-- Nothing, or bytes that end inside their first record: there is no whole record at the beginning.
 abbrev pub IsRest : List ℕ → Type 0
 IsRest rest = (rest ≡ []) ⊎ IsTrue (ends_inside rest)
 
--- The first bytes of a piece, so many, are the tape of all the records that it is read as.
+-- The first n bytes of a piece are the tape of all the records that the piece is read as.
 pub record AreWholeRecords (piece : List ℕ) (n : ℕ) : Type 0 where
   pub within : n ≤ length piece
   pub whole : IsTape (take n piece) (tape_read piece).records
   pub rest : IsRest (drop n piece)
 
--- There are last bytes of a tape of so many that weren't heard, and it is cut where they begin.
+-- The last bytes of a tape of `len` bytes weren't heard, and the tape is cut where they begin.
 abbrev pub IsCutBefore : List ℕ → ℕ → Status → Type 0
 IsCutBefore rest len s = (0 < length rest) × (s ≡ status.TapeCut (len - length rest))
 
--- There are bytes, at most so many and those of the named file where they are told, which are a whole tape: and its records were heard
--- by all.
+-- Some bytes, at most `most`, are a whole tape, and all listeners heard its records. If the named file is told, these are its bytes.
 pub record HaveHeardFile (name : List ℕ) (most : ℕ) (shelf : ShelfState) (before now : List Listener) : Type 0 where
   pub bytes : List ℕ
   pub told : ToldIs (shelf.told.file name) bytes

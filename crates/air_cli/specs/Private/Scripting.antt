@@ -7,15 +7,15 @@ use Rattle.air_report.specs.declared.status.Status.{Status}
 use Rattle.air_report.specs.declared.status.Status.TheVariants as status
 use Rattle.air_cli.specs.Deliveries.{Delivers}
 use Rattle.scripts.specs.Sinks.{HasBeginning}
-use Rattle.air_cli.specs.OutputPieces.{IsCutOff, IsWritten}
+use Rattle.air_cli.specs.Private.OutputPieces.{IsCutOff, IsWritten}
 use Rattle.air_cli.specs.Private.GivenTexts.{script_given}
 
--- Why the airing stopped: memory ran out, and a beginning of the tape was written; or a write failed.
+-- Why the airing stopped: it was out of memory, and a beginning of the tape was written; or a write failed.
 abbrev pub IsStopped : Option (List ℕ) → Deck → ShelfState → ShelfState → Status → Type 0
 IsStopped output d before now s =
     ((s ≡ status.NoMemory) × HasBeginning (λ bytes. IsWritten output bytes before now) (script_tape d)) ⊎ ((s ≡ status.WriteFault) × IsCutOff output (script_tape d) before now)
 
--- Report and tape were delivered, or one of them in part; or memory ran out, and a beginning of the tape was written.
+-- The report and the tape were delivered, or one of them in part; or the command was out of memory, and a beginning of the tape was written.
 abbrev pub AirsScript : Option (List ℕ) → Deck → ShelfState → ShelfState → Status → Type 0
 AirsScript output d before now s =
     Delivers output (script_given d) before now s ⊎ ((s ≡ status.NoMemory) × HasBeginning (λ bytes. IsWritten output bytes before now) (script_tape d))

@@ -1,4 +1,4 @@
-//! The command `audit`: what the replay of a named report finds, by a named deck.
+//! The command `audit`: the findings of the replay of a named report, by a named deck.
 
 ghost use Rattle.std.specs.Prelude.{◌≤◌, length, IfErr, IfOk};
 ghost use Rattle.air_report.specs.declared.reading.limits.TheConstants.{MOST_REPORT_BYTES};

@@ -1,4 +1,4 @@
-//! All readers of a deck, who hear an ear together: each datagram is decoded once, and nothing is kept of it.
+//! All readers of a deck hear an ear together: each datagram is decoded once and then dropped.
 
 ghost use Rattle.std.specs.Prelude.{◌≡◌, ◌<◌, ◌+◌, ◌^◌, None, Some, All, IfErr, IfOk, IsSome, OnOk, length, map};
 ghost use Rattle.air_model.specs.Buckets.{bucket_in};
@@ -14,15 +14,15 @@ use chunk_program::Planned;
 use listeners::{Listener, Sessions, all_hear, end_all, listeners_of};
 use std::alloc::Global;
 
-/// How many bytes are heard of a datagram at most.
+/// The greatest number of bytes that is heard of a datagram.
 pub const MOST_HEARD_BYTES: usize = 2_048;
 
-/// Why readers did not hear all.
+/// Why readers did not hear everything.
 #[derive(Clone, Copy, Debug, PartialEq, Eq)]
 pub enum HearFault {
-    /// The ear failed, after so many datagrams.
+    /// The ear failed, after this number of datagrams.
     Ear { heard: u64 },
-    /// There was no memory.
+    /// Out of memory.
     NoMemory,
 }
 
@@ -37,7 +37,7 @@ impl From<NoMemory> for HearFault {
     }
 }
 
-/// Lets all hear one datagram.
+/// Lets all listeners hear one datagram.
 fn all_hear_bytes(
     alloc: Global,
     listeners: Vec<Listener>,
@@ -49,7 +49,7 @@ fn all_hear_bytes(
     all_hear(alloc, listeners, &decode(bytes))
 }
 
-/// Lets all hear what an ear gives into this buffer, until its end, or until so many datagrams were heard.
+/// Lets all listeners hear what an ear gives into this buffer, until its end, or until they heard the greatest number of datagrams.
 fn all_hear_ear<E: Ear>(
     alloc: Global,
     listeners: Vec<Listener>,
@@ -79,9 +79,9 @@ fn all_hear_ear<E: Ear>(
     Ok(listeners)
 }
 
-/// Tunes the ear to a port, and lets all readers of a deck hear it until its end, or until they heard as many datagrams as the deck
-/// says: the lines and the counts are those of their sessions over what was heard, of each datagram its first 2,048 bytes. Where the
-/// ear failed, so many datagrams had been heard before: none where it could not be tuned.
+/// Tunes the ear to a port, and lets all readers of a deck hear it until its end, or until they heard as many datagrams as the deck says. The lines
+/// and the counts are those of their sessions over the first 2,048 bytes of each datagram. If the ear failed, `heard` datagrams had been heard
+/// before: 0 if it could not be tuned.
 pub fn ear_sessions<E: Ear>(
     alloc: Global,
     planned: &Planned,

@@ -64,7 +64,7 @@ fn hear_on_air<E: Ear>(
     }
 }
 
-/// The status where not all was heard.
+/// The status if not everything was heard.
 fn status_of(fault: HearFault) -> Status
     ensures { result ≡ hear_status fault }
 {

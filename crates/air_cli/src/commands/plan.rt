@@ -1,4 +1,4 @@
-//! The command `plan`: what the plan of a named deck gives.
+//! The command `plan`: the plan of a named deck.
 
 ghost use Rattle.std.specs.Prelude.{◌≡◌, IfErr, IfOk, OnOk};
 ghost use Rattle.air_model.specs.Outputs.{plan_output};

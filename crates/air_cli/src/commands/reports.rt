@@ -1,7 +1,7 @@
 //! The reports of `script`, `tune`, `listen` and `cast`, in memory.
 //!
-//! `script` reports of the deck's script and of what its readers heard of it, `tune` of what they heard of a given tape, `listen` of
-//! an ear, and `cast` of a run that readers may hear elsewhere.
+//! `script` reports on the deck's script and on what its readers heard of it. `tune` reports on what they heard of a given tape, and `listen` on what
+//! they heard of an ear. `cast` reports on a run that readers may hear elsewhere.
 
 ghost use Rattle.std.specs.Prelude.{◌≡◌, ◌<◌, ◌^◌, [], IfOk};
 ghost use Rattle.air_history.specs.Histories.{starts};
@@ -18,7 +18,7 @@ use listeners::Sessions;
 use scripts::AiredScript;
 use std::alloc::Global;
 
-/// The report of a deck's script, from its history and what its readers' sessions tell.
+/// The report of a deck's script, from its history and its readers' sessions.
 pub(crate) fn script_report(
     alloc: Global,
     planned: &Planned,
@@ -34,7 +34,7 @@ pub(crate) fn script_report(
     Ok(report)
 }
 
-/// The report of what the sessions of readers tell who know no history.
+/// The report of the sessions of readers that know no history.
 pub(crate) fn heard_report(alloc: Global, sessions: Sessions) -> Result<Vec<u8>, NoMemory>
     ensures { IfOk result (λ text. text.items
         ≡ report_text (record { history = []; verdicts = sessions.verdicts.items; counts = sessions.counts.items; glances = []; looks = [] })) }
@@ -43,7 +43,7 @@ pub(crate) fn heard_report(alloc: Global, sessions: Sessions) -> Result<Vec<u8>,
     Ok(report)
 }
 
-/// The report of a run that no reader here heard: its history, and what its monitors saw.
+/// The report of a run that no reader heard here: its history, and what its monitors saw.
 pub(crate) fn cast_report(alloc: Global, run: Run) -> Result<Vec<u8>, NoMemory>
     ensures { IfOk result (λ text. text.items ≡ cast_output run.history run.glances run.looks) }
 {
@@ -59,7 +59,7 @@ pub(crate) fn cast_report(alloc: Global, run: Run) -> Result<Vec<u8>, NoMemory>
     Ok(text)
 }
 
-/// The text of the report of a history and of what the sessions of readers tell; no monitor saw it.
+/// The text of the report of a history and of readers' sessions; no monitor saw the history.
 fn report_of(alloc: Global, events: Vec<Event>, sessions: Sessions) -> Result<Vec<u8>, NoMemory>
     requires { starts events.items < 2 ^ 32 }
     ensures { IfOk result (λ text. text.items

@@ -1,4 +1,4 @@
-//! The command `run`: what a run of a named deck on threads gives.
+//! The command `run`: the report and the tape of a run of a named deck on threads.
 
 ghost use Rattle.std.specs.Prelude.{ℕ, List, IfErr, IfOk};
 ghost use Rattle.air_cli.specs.Run.{run_meaning};
@@ -13,7 +13,7 @@ use std::alloc::Global;
 use std::sync::Wait;
 use std::thread::Threads;
 
-/// The report and the tape of a run of the named deck, whatever output is to take the tape.
+/// The report and the tape of a run of the named deck, regardless of the output for the tape.
 #[tactic(auto, using(crate::proofs::MakeLemmas::is_unmade, crate::proofs::MakeLemmas::is_unmade_calm, crate::proofs::RunMeaningLemmas::unrunnable_run, crate::proofs::RunMeaningLemmas::long_run_cause))]
 pub(crate) fn run<R: Threads + Wait + Sync, S: Shelf, G: Gate + Sync>(
     rt: &R,

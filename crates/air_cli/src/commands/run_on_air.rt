@@ -1,4 +1,4 @@
-//! A run, where its tape isn't too long.
+//! A run of a deck, unless its tape would be too long.
 
 ghost use Rattle.std.specs.Prelude.{◌≤◌, IfErr, IfOk};
 ghost use Rattle.air_base.specs.declared.limits.TheConstants.{MOST_TAPE_BYTES};

@@ -1,4 +1,4 @@
-//! What a run gives: its report and its tape.
+//! The report and the tape of a run.
 
 ghost use Rattle.std.specs.Prelude.{◌≤◌, IfOk};
 ghost use Rattle.air_base.specs.declared.limits.TheConstants.{MOST_TAPE_BYTES};
@@ -17,7 +17,7 @@ use std::alloc::Global;
 use std::sync::Wait;
 use std::thread::Threads;
 
-/// Runs a deck on threads: the report of the run, with what its monitors saw and its readers made of it, and its tape.
+/// Runs a deck on threads, and makes the report of the run, with its readers' sessions and what its monitors saw, and its tape.
 pub(crate) fn make_run<R: Threads + Wait + Sync, G: Gate + Sync>(
     rt: &R,
     alloc: Global,

@@ -1,14 +1,14 @@
 //! The command `script`: the script of a named deck on the air, piece by piece.
 //!
-//! Every reader hears a piece, it is added to the output where one is named, and the script goes on. The report is made at the end,
-//! and then printed.
+//! Every reader hears a piece, it is added to the output, and the script goes on; where no output is named the readers hear the script
+//! without its tape. The report is made at the end, and then printed.
 
 ghost use Rattle.std.specs.Prelude.{◌≡◌, ◌≤◌, IfErr, IfOk, None, OnOk, length, option_map};
 ghost use Rattle.air_base.specs.declared.limits.TheConstants.{MOST_TAPE_BYTES};
 ghost use Rattle.air_devices.specs.Counts.{NoCountFalls};
 ghost use Rattle.air_model.specs.Outputs.{script_output, script_tape};
 ghost use Rattle.air_cli.specs.Deliveries.{KeepsButDelivered};
-ghost use Rattle.air_cli.specs.OutputPieces.{IsWritten};
+ghost use Rattle.air_cli.specs.Private.OutputPieces.{IsWritten};
 ghost use Rattle.air_cli.specs.Answers.{Leaves, QuietAnswers};
 ghost use Rattle.air_cli.specs.Script.{script_meaning};
 ghost use Rattle.air_cli.specs.Private.BeforeDelivery.{IsMade, IsUnmade, ReadsInputs};
@@ -20,12 +20,13 @@ use crate::files::runnable::read_runnable_deck;
 use crate::outputs::pieces::{NamedOutput, begin_output};
 use crate::outputs::refusals::refuse;
 use crate::truths::shows_script_truth;
+use air_base::NoMemory;
 use air_base::limits::MOST_TAPE_BYTES;
 use air_devices::Shelf;
 use air_report::Status;
 use air_sender::tape_len;
 use chunk_program::Planned;
-use scripts::air_script;
+use scripts::{air_script, hear_script};
 use std::alloc::Global;
 use std::thread::Threads;
 
@@ -103,8 +104,26 @@ fn air_to_output<T: Threads + Sync, S: Shelf>(
     let Ok(()) = begin_output(shelf, output) else {
         return Err(Status::WriteFault);
     };
+    if output.is_none() {
+        let text = hear_to_text(threads, alloc, planned)?;
+        return Ok(text);
+    }
     let sink = NamedOutput { name: output };
     let aired = air_script(threads, alloc, planned, &sink, shelf)?;
+    let text = script_report(alloc, planned, aired)?;
+    Ok(text)
+}
+
+/// The text of the report of a deck's script, whose tape goes nowhere: no bucket is encoded that no reader opens.
+fn hear_to_text<T: Threads + Sync>(
+    threads: &T,
+    alloc: Global,
+    planned: &Planned,
+) -> Result<Vec<u8>, NoMemory>
+    requires { length (script_tape planned.now) ≤ MOST_TAPE_BYTES }
+    ensures { IfOk result (λ text. text.items ≡ script_output planned.now) }
+{
+    let aired = hear_script(threads, alloc, planned)?;
     let text = script_report(alloc, planned, aired)?;
     Ok(text)
 }

@@ -98,7 +98,7 @@ fn put_split(
     Ok(wtr)
 }
 
-/// The sizes as a list: numbers with one space between each two.
+/// The sizes as a list: numbers separated by single spaces.
 fn sizes_text(alloc: Global, sizes: &[u16]) -> Result<Vec<u8>, NoMemory>
     ensures { IfOk result (λ text. text.items ≡ list_text (map number_text sizes.now)) }
 {

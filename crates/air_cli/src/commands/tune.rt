@@ -1,7 +1,7 @@
 //! The command `tune`: what a named deck's readers hear of a named tape.
 //!
-//! The tape is read piece by piece, and all readers hear each piece side by side (`tapes`). Nothing is printed here, and no output is
-//! written: what is given is delivered at the end.
+//! The tape is read piece by piece, and all readers hear each piece side by side (`tapes`). Nothing is printed here, and no output is written: the
+//! report is delivered at the end.
 
 ghost use Rattle.std.specs.Prelude.{◌≡◌, ◌≤◌, length, None, IfErr, IfOk};
 ghost use Rattle.air_base.specs.declared.limits.TheConstants.{MOST_TAPE_BYTES};

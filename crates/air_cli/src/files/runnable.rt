@@ -1,4 +1,4 @@
-//! The deck of a named file with its plans, where the deck can be run, or the status that refuses it.
+//! The deck of a named file with its plans, if the deck can be run, or the status that refuses it.
 
 ghost use Rattle.std.specs.Prelude.{IfErr, IfOk};
 ghost use Rattle.air_model.specs.Decks.{IsDeck};
@@ -13,7 +13,7 @@ use air_report::Status;
 use chunk_program::Planned;
 use std::alloc::Global;
 
-/// The deck of a named file with its plans, where the deck can be run.
+/// The deck of a named file with its plans, if the deck can be run.
 #[tactic(auto, using(crate::proofs::CauseLemmas::deck_runs, crate::proofs::CauseLemmas::length_runs))]
 pub fn read_runnable_deck<S: Shelf>(
     alloc: Global,

@@ -1,9 +1,9 @@
-//! An output that is written piece by piece: begun, and then each piece is added behind those before.
+//! An output that is written piece by piece: it is begun, and then each piece is added after those before.
 
 ghost use Rattle.std.specs.Prelude.{◌≡◌, ◌++◌, [], ℕ, List, OnErr, OnOk, option_map};
 ghost use Rattle.air_devices.specs.Shelves.{ShelfState};
 ghost use Rattle.air_report.specs.declared.status.Status.TheVariants as status;
-ghost use Rattle.air_cli.specs.OutputPieces.{IsCutOff, IsWritten};
+ghost use Rattle.air_cli.specs.Private.OutputPieces.{IsCutOff, IsWritten};
 
 use air_devices::{Failed, Shelf};
 use air_report::Status;
@@ -20,12 +20,13 @@ pub fn begin_output<S: Shelf>(shelf: &mut S, output: Option<&str>) -> Result<(),
     }
 }
 
-/// Adds a piece to the output of this name, if one is named. Told of the moment when the output was begun: where it held the pieces
-/// before, it holds this piece behind them; where the write fails, it is as it was before, or holds a beginning of every tape that begins so.
+/// Adds a piece to the output of this name, if one is named. Compared with the moment when the output was begun: if it held the pieces before, it
+/// then holds this piece after them. If the write fails, it is as it was at that moment, or holds the first bytes of every tape that begins with
+/// these pieces.
 ///
-/// The shelf is given the name anew for each piece. Over real files nothing is told of an output, and each piece goes to the file that has
-/// the name then: where the output was renamed or replaced between two pieces, the later ones go to what took its place, and no answer
-/// tells of it; where nothing has the name any more, or a file that was read has it, the piece fails.
+/// The shelf is given the name anew for each piece. Over real files no output is told, and each piece goes to the file that has the name at that
+/// time. If the output was renamed or replaced between two pieces, the later ones go to what took its place, and no answer says so. If nothing has
+/// the name any more, or a file that was read has it, the piece fails.
 pub fn append_piece<S: Shelf>(
     shelf: &mut S,
     output: Option<&str>,
@@ -42,7 +43,7 @@ pub fn append_piece<S: Shelf>(
     }
 }
 
-/// The output of this name on a shelf, if one is named, to which the pieces of a script's tape are added.
+/// The output of this name on a shelf, if one is named. The pieces of a script's tape are added to it.
 #[derive(Clone, Copy, Debug)]
 pub struct NamedOutput<'a> {
     pub name: Option<&'a str>,

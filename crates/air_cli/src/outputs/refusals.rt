@@ -10,7 +10,7 @@ use air_devices::Shelf;
 use air_report::{Status, refusal_line};
 use std::alloc::Global;
 
-/// Prints the status's line, and answers the status, or out of memory where there is none for the line.
+/// Prints the status's line, and answers the status, or `NoMemory` if there is no memory for the line.
 pub fn refuse<S: Shelf>(alloc: Global, shelf: &mut S, status: Status) -> Status
     ensures gives { Refuses status (S.state shelf.old) (S.state shelf.new) result }
     ensures rest { KeepsButPrinted (S.state shelf.old).told (S.state shelf.new).told }
@@ -22,7 +22,7 @@ pub fn refuse<S: Shelf>(alloc: Global, shelf: &mut S, status: Status) -> Status
     }
 }
 
-/// Prints the line of a status; a print that fails leaves out the rest of it.
+/// Prints the line of a status; a print that fails leaves out the rest of the line.
 #[tactic(auto, using(crate::proofs::DeliveryLemmas::print_steady))]
 fn print_line<S: Shelf>(alloc: Global, shelf: &mut S, status: &Status) -> Result<(), NoMemory>
     ensures line { OnOk result

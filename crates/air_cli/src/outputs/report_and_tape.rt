@@ -1,4 +1,4 @@
-//! What a command gives, before it is printed and written.
+//! What a command made, before it is printed and written.
 
 ghost use Rattle.std.specs.Prelude.{◌≡◌};
 ghost use Rattle.air_cli.specs.ReportsAndTapes.{given_status};
@@ -7,8 +7,7 @@ use air_report::Status;
 use air_sender::TapeMast;
 use std::marker::Model;
 
-/// The text that a command prints, the tape that it writes where the words name an output, and whether the text says that
-/// something differs.
+/// The text that a command prints, the tape that it writes if the words name an output, and whether the text says that something differs.
 #[derive(Drop)]
 pub struct ReportAndTape {
     pub text: Vec<u8>,
@@ -33,7 +32,7 @@ impl ReportAndTape {
         &self.text
     }
 
-    /// The tape; no bytes where there is none.
+    /// The tape; empty if there is none.
     pub fn tape(&self) -> &[u8]
         ensures { result.now ≡ self.now.tape }
     {
@@ -43,7 +42,7 @@ impl ReportAndTape {
         }
     }
 
-    /// The status with which the command ends where all of it is given.
+    /// The status with which the command ends if all of it is delivered.
     pub fn status(&self) -> Status
         ensures { result ≡ given_status self.now.differs }
     {

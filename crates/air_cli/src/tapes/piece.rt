@@ -4,7 +4,7 @@
 //! byte more: where a record is longer than it.
 
 ghost use Rattle.std.specs.Prelude.{◌≡◌, ◌≤◌, ◌<◌, ◌+◌, ◌-◌, [], drop, length, take, vec_len, IfOk, OnOk};
-ghost use Rattle.air_devices.specs.Counts.{HasCauseIn, reading_of};
+ghost use Rattle.air_devices.specs.Counts.{TellsFailureIn, reading_of};
 ghost use Rattle.air_devices.specs.Unchanged.{KeepsButLeft};
 ghost use Rattle.air_cli.specs.Private.Pieces.{HasCome};
 
@@ -60,7 +60,7 @@ impl Piece {
         ensures bound { IfOk result (λ n. n ≤ most + 1) }
         ensures moved { IfOk result (λ n. HasCome n self.old.bytes self.new.bytes ((S.state shelf.old).told.left name.now) ((S.state shelf.new).told.left name.now)) }
         ensures rest { KeepsButLeft name.now (S.state shelf.old).told (S.state shelf.new).told }
-        ensures cause { HasCauseIn (reading_of name.now) (S.state shelf.old).faults (S.state shelf.new).faults result }
+        ensures cause { TellsFailureIn (reading_of name.now) (S.state shelf.old).faults (S.state shelf.new).faults result }
     {
         let count = read_behind(shelf, name, &mut self.buffer, self.len, most)?;
         self.len += count;
@@ -95,13 +95,13 @@ fn read_behind<S: Shelf>(
     ensures within { IfOk result (λ n. len + n ≤ length buffer.old) }
     ensures moved { IfOk result (λ n. HasCome n (take len buffer.old) (take (len + n) buffer.new) ((S.state shelf.old).told.left name.now) ((S.state shelf.new).told.left name.now)) }
     ensures rest { KeepsButLeft name.now (S.state shelf.old).told (S.state shelf.new).told }
-    ensures cause { HasCauseIn (reading_of name.now) (S.state shelf.old).faults (S.state shelf.new).faults result }
+    ensures cause { TellsFailureIn (reading_of name.now) (S.state shelf.old).faults (S.state shelf.new).faults result }
 {
     let want = (buffer.len() - len - 1).min(most) + 1;
     shelf.read(name, &mut buffer[len..len + want])
 }
 
-/// Moves the bytes between two places to the front.
+/// Moves the bytes between two places to the beginning.
 fn shift_down(buffer: &mut Vec<u8>, from: usize, to: usize)
     requires order { from ≤ to }
     requires within { to ≤ vec_len buffer.old }

@@ -1,4 +1,4 @@
-//! The whole records at the front of a piece of a tape, which all readers hear.
+//! The whole records at the beginning of a piece of a tape, which all readers hear.
 
 ghost use Rattle.std.specs.Prelude.{◌≡◌, ◌<◌, ◌+◌, ◌^◌, All, IfOk, OnOk, length, map};
 ghost use Rattle.air_model.specs.Buckets.{bucket_in};
@@ -13,7 +13,7 @@ use listeners::Together;
 use std::alloc::Global;
 use std::thread::Threads;
 
-/// Lets all hear the whole records at the front of a piece, side by side, and answers how many bytes these have: what follows is
+/// Lets all hear the whole records at the beginning of a piece, side by side, and answers how many bytes these have: what follows is
 /// nothing, or a record that the piece's end divides.
 pub(crate) fn hear_whole_records<T: Threads + Sync>(
     threads: &T,
@@ -23,14 +23,14 @@ pub(crate) fn hear_whole_records<T: Threads + Sync>(
 ) -> Result<usize, NoMemory>
     requires { All (λ l. heard_count l.state.counts + length (tape_read piece.now).records < 2 ^ 64) readers.old }
     ensures heard { OnOk result (readers.new ≡ map (hears (map bucket_in (tape_read piece.now).records)) readers.old) }
-    ensures front { IfOk result (AreWholeRecords piece.now) }
+    ensures beginning { IfOk result (AreWholeRecords piece.now) }
 {
     let len = whole_records_len(piece);
     readers.hear(threads, alloc, &piece[..len])?;
     Ok(len)
 }
 
-/// How many bytes the whole records at the front of a piece have.
+/// How many bytes the whole records at the beginning of a piece have.
 fn whole_records_len(piece: &[u8]) -> usize
     ensures { AreWholeRecords piece.now result }
 {

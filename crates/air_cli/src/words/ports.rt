@@ -6,10 +6,10 @@ ghost use Rattle.air_cli.specs.Words.{port_of};
 
 use air_base::read_u64;
 
-/// The last number that is one of a port; the first is 1.
+/// The greatest number of a port; the least is 1.
 pub const LAST_PORT: u64 = 65_535;
 
-/// The port that a word spells, if it is a number of one.
+/// The port that a word spells, if it spells one.
 pub(crate) fn port_of(word: &str) -> Option<u16>
     ensures { result ≡ port_of (number_of word.now) }
 {

@@ -1,7 +1,7 @@
-//! The calls of a device in memory, which fails where it is told to.
+//! The calls of a device in memory, which fails at the calls that it is told to fail at.
 //!
-//! They are numbered together from 1, and a call whose number is listed fails. How often calls failed is counted here
-//! too, whatever the reason. The forms in memory share this.
+//! They are numbered together from 1, and a call whose number is listed fails. Failed calls are counted here too, for any
+//! reason of failure. All devices in memory use this.
 
 ghost use Rattle.std.specs.Prelude.{◌≡◌, ◌≤◌};
 ghost use Rattle.air_devices.specs.Calls.{AreNewCalls, is_next_listed, next_call};
@@ -29,7 +29,7 @@ impl Calls {
         }
     }
 
-    /// Numbers a call, and tells whether its number is listed, so that it is to fail.
+    /// Numbers a call, and says whether its number is listed, which makes it fail.
     pub fn is_to_fail(&mut self) -> bool
         ensures numbered { self.new ≡ record self.old { made = next_call self.old } }
         ensures listed { result ≡ is_next_listed self.old }

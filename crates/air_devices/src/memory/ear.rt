@@ -1,11 +1,11 @@
-//! An ear in memory: it tells all that it has still to hear, and fails where it is told to.
+//! An ear in memory: it tells all that it has still to hear, and fails at the calls that it is told to fail at.
 //!
-//! Its calls are numbered together from 1, and a call whose number is listed fails. It hears the end where its list is used
-//! up. No call takes memory.
+//! Its calls are numbered together from 1, and a call whose number is listed fails. It hears the end when its list is used up.
+//! No call takes memory.
 
 ghost use Rattle.std.specs.Prelude.{◌≡◌, ◌≤◌, ◌<◌, ◌↔◌, Some, length, map, take, All, IfOk, IsErr, IsTrue, OnErr};
 ghost use Rattle.air_devices.specs.Calls.{IsNextCall, is_next_listed};
-ghost use Rattle.air_devices.specs.Counts.{HasCause};
+ghost use Rattle.air_devices.specs.Counts.{TellsFailure};
 ghost use Rattle.air_devices.specs.Ears.{Hears};
 ghost use Rattle.air_devices.specs.MemoryEars.{IsNewEar, memory_ear_state};
 
@@ -14,7 +14,7 @@ use crate::memory::calls::Calls;
 use crate::shelves::Failed;
 use std::marker::Model;
 
-/// The buckets that are heard, and how many of them were.
+/// The buckets to be heard, and how many of them were heard.
 #[derive(Drop)]
 pub struct MemEar {
     heard: Vec<Vec<u8>>,
@@ -34,7 +34,8 @@ impl Model for MemEar {
 }
 
 impl MemEar {
-    /// An ear that has these buckets still to hear, each of at least one byte. The calls whose numbers are listed in `fail` fail.
+    /// An ear that has these buckets still to hear, each of at least one byte. The calls whose numbers are listed in `fail`
+    /// fail.
     pub fn new(heard: Vec<Vec<u8>>, fail: Vec<u64>) -> MemEar
         requires filled { All (λ bytes. 1 ≤ length bytes.items) heard.items }
         ensures { IsNewEar (map (λ bytes. bytes.items) heard.items) fail.items result }
@@ -48,13 +49,13 @@ impl MemEar {
     }
 }
 
-/// Copies as much of the bytes as there is room for to the front of the buffer, and tells how much.
+/// Copies as much of the bytes as there is room for to the beginning of the buffer, and gives their number.
 fn fill(buf: &mut [u8], bytes: &[u8]) -> usize
     requires room { 0 < length buf.old }
     requires some { 1 ≤ length bytes.now }
     ensures some { 1 ≤ result }
     ensures within { result ≤ length buf.new }
-    ensures front { take result buf.new ≡ take (length buf.new) bytes.now }
+    ensures beginning { take result buf.new ≡ take (length buf.new) bytes.now }
 {
     let count = bytes.len().min(buf.len());
     buf[..count].copy_from_slice(&bytes[..count]);
@@ -69,7 +70,7 @@ impl Ear for MemEar {
         ensures call { IsNextCall self.old.calls self.new.calls }
         ensures tuned { self.new.port ≡ Some port }
         ensures kept { self.new.waiting ≡ self.old.waiting }
-        ensures cause { HasCause self.old.calls.faults self.new.calls.faults result }
+        ensures cause { TellsFailure self.old.calls.faults self.new.calls.faults result }
     {
         self.port = Some(port);
         if self.calls.is_to_fail() {
@@ -85,7 +86,7 @@ impl Ear for MemEar {
         ensures heard { IfOk result (Hears (Some self.old.waiting) (Some self.new.waiting) buf.new) }
         ensures refused { OnErr result (self.new.waiting ≡ self.old.waiting) }
         ensures port { self.new.port ≡ self.old.port }
-        ensures cause { HasCause self.old.calls.faults self.new.calls.faults result }
+        ensures cause { TellsFailure self.old.calls.faults self.new.calls.faults result }
     {
         if self.calls.is_to_fail() {
             return Err(self.calls.fault());

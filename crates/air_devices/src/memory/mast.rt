@@ -1,13 +1,13 @@
-//! A mast in memory: it tells all that it sent, and fails where it is told to.
+//! A mast in memory: it tells all that it sent, and fails at the calls that it is told to fail at.
 //!
-//! All memory is taken when it is made. Its calls are numbered together from 1, and a call whose number is listed
-//! fails. So does a send past the room, of which nothing is kept: a bucket takes its own bytes and four more.
+//! All memory is taken when it is made. Its calls are numbered together from 1, and a call whose number is listed fails. A send
+//! past the room fails too, and nothing of it is kept: a bucket takes its own bytes and four more.
 
 ghost use Rattle.std.specs.Prelude.{◌≡◌, ◌<◌, ◌^◌, ◌↔◌, [], ◌∷◌, Some, length, IfOk, IsErr, IsTrue, OnErr, OnOk};
 ghost use Rattle.std.specs.Option.{is_some};
 ghost use Rattle.air_model.specs.Tapes.{tape_of};
 ghost use Rattle.air_devices.specs.Calls.{is_next_listed};
-ghost use Rattle.air_devices.specs.Counts.{HasCause};
+ghost use Rattle.air_devices.specs.Counts.{TellsFailure};
 ghost use Rattle.air_devices.specs.Masts.{Changes, with_buckets, with_end};
 ghost use Rattle.air_devices.specs.MemoryMasts.{IsNewMast, MadeMastCall, is_send_refused, memory_mast_state, told_by_mast};
 
@@ -64,7 +64,7 @@ impl Mast for MemMast {
         ensures call { MadeMastCall self.old self.new }
         ensures aimed { self.new.port ≡ Some port }
         ensures kept { told_by_mast self.new ≡ told_by_mast self.old }
-        ensures cause { HasCause self.old.calls.faults self.new.calls.faults result }
+        ensures cause { TellsFailure self.old.calls.faults self.new.calls.faults result }
     {
         self.port = Some(port);
         if self.calls.is_to_fail() {
@@ -80,7 +80,7 @@ impl Mast for MemMast {
         ensures added { OnOk result (Changes (with_buckets (bytes.now ∷ [])) (Some (told_by_mast self.old)) (Some (told_by_mast self.new))) }
         ensures refused { OnErr result (told_by_mast self.new ≡ told_by_mast self.old) }
         ensures port { self.new.port ≡ self.old.port }
-        ensures cause { HasCause self.old.calls.faults self.new.calls.faults result }
+        ensures cause { TellsFailure self.old.calls.faults self.new.calls.faults result }
     {
         if self.calls.is_to_fail() || !self.tape.add(bytes) {
             return Err(self.calls.fault());
@@ -94,7 +94,7 @@ impl Mast for MemMast {
         ensures ended { OnOk result (Changes with_end (Some (told_by_mast self.old)) (Some (told_by_mast self.new))) }
         ensures refused { OnErr result (told_by_mast self.new ≡ told_by_mast self.old) }
         ensures port { self.new.port ≡ self.old.port }
-        ensures cause { HasCause self.old.calls.faults self.new.calls.faults result }
+        ensures cause { TellsFailure self.old.calls.faults self.new.calls.faults result }
     {
         if self.calls.is_to_fail() {
             return Err(self.calls.fault());

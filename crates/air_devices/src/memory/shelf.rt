@@ -1,17 +1,17 @@
-//! A shelf in memory: it tells all that it holds, and fails where it is told to.
+//! A shelf in memory: it tells all that it holds, and fails at the calls that it is told to fail at.
 //!
-//! All memory is taken when it is made. Its calls are numbered together from 1, and a call whose number is listed
-//! fails. So does a pick of a name that is no file's, a create or an append of a name that is no output's, and a
-//! write past the room, of which what fits is added.
+//! All memory is taken when it is made. Its calls are numbered together from 1, and a call whose number is listed fails. These
+//! calls fail too: a pick of a name that no file has, a create or an append of a name that no output has, and a write past the
+//! room, of which what fits is added.
 
 ghost use Rattle.std.specs.Prelude.{◌≡◌, ◌<◌, ◌+◌, ◌-◌, ◌^◌, ◌++◌, ◌||◌, ◌↔◌, ℕ, List, [], Some, drop, length, map, min, position, take, IfOk, IfSome, IsErr, IsTrue, OnErr, OnOk};
 ghost use Rattle.std.specs.Io.{ReadsAtMost};
 ghost use Rattle.std.specs.Io.KnownBytes.{Appends, ReadConsumes};
 ghost use Rattle.std.specs.Option.{is_none, option_map};
 ghost use Rattle.air_devices.specs.Calls.{is_next_listed};
-ghost use Rattle.air_devices.specs.Counts.{HasCauseIn, printing_of, reading_of, writing_of};
+ghost use Rattle.air_devices.specs.Counts.{TellsFailureIn, printing_of, reading_of, writing_of};
 ghost use Rattle.air_devices.specs.Unchanged.{KeepsButLeft, KeepsButOutput, KeepsButPrinted};
-ghost use Rattle.air_devices.specs.WhatIsTold.{AppendsPart, Becomes};
+ghost use Rattle.air_devices.specs.WhatIsTold.{AppendsBeginning, Becomes};
 ghost use Rattle.air_devices.specs.Memory.{IsNewShelf, MadeShelfCall, added_bytes, empty_output, faults_of, file_in, given_bytes, given_named, output_in, overflows_output, overflows_print, shelved_of, spells, told_by, unpicked_file};
 
 use crate::memory::calls::Calls;
@@ -70,7 +70,7 @@ impl MemShelf {
         })
     }
 
-    /// The bytes of the output of this name, and None exactly if no output has the name.
+    /// The bytes of the output of this name; None if and only if no output has the name.
     pub fn output(&self, name: &str) -> Option<&[u8]>
         ensures { option_map (λ bytes. bytes.now) result ≡ option_map (λ o. o.written.bytes) (output_in name.now self.now) }
     {
@@ -109,7 +109,7 @@ impl Shelf for MemShelf {
         ensures picked { OnOk result ((told_by self.new).left name.now ≡ (told_by self.old).file name.now) }
         ensures refused { OnErr result ((told_by self.new).left name.now ≡ (told_by self.old).left name.now) }
         ensures rest { KeepsButLeft name.now (told_by self.old) (told_by self.new) }
-        ensures cause { HasCauseIn (reading_of name.now) (faults_of self.old) (faults_of self.new) result }
+        ensures cause { TellsFailureIn (reading_of name.now) (faults_of self.old) (faults_of self.new) result }
     {
         if self.calls.is_to_fail() {
             return Err(self.calls.fault());
@@ -128,7 +128,7 @@ impl Shelf for MemShelf {
         ensures moved { ReadConsumes ((told_by self.old).left name.now) ((told_by self.new).left name.now) result buf.new }
         ensures refused { OnErr result ((told_by self.new).left name.now ≡ (told_by self.old).left name.now) }
         ensures rest { KeepsButLeft name.now (told_by self.old) (told_by self.new) }
-        ensures cause { HasCauseIn (reading_of name.now) (faults_of self.old) (faults_of self.new) result }
+        ensures cause { TellsFailureIn (reading_of name.now) (faults_of self.old) (faults_of self.new) result }
     {
         if self.calls.is_to_fail() {
             return Err(self.calls.fault());
@@ -148,7 +148,7 @@ impl Shelf for MemShelf {
         ensures emptied { OnOk result (Becomes ((told_by self.old).output name.now) ((told_by self.new).output name.now) []) }
         ensures refused { OnErr result ((told_by self.new).output name.now ≡ (told_by self.old).output name.now) }
         ensures rest { KeepsButOutput name.now (told_by self.old) (told_by self.new) }
-        ensures cause { HasCauseIn (writing_of name.now) (faults_of self.old) (faults_of self.new) result }
+        ensures cause { TellsFailureIn (writing_of name.now) (faults_of self.old) (faults_of self.new) result }
     {
         if self.calls.is_to_fail() {
             return Err(self.calls.fault());
@@ -165,9 +165,9 @@ impl Shelf for MemShelf {
         ensures call { MadeShelfCall self.old self.new }
         ensures fitting { IfSome (output_in name.now self.old) (λ o. (told_by self.new).output name.now ≡ Some (o.written.bytes ++ added_bytes self.old.calls o.written bytes.now)) }
         ensures all { OnOk result (Appends ((told_by self.old).output name.now) ((told_by self.new).output name.now) bytes.now) }
-        ensures part { OnErr result (AppendsPart ((told_by self.old).output name.now) ((told_by self.new).output name.now) bytes.now) }
+        ensures part { OnErr result (AppendsBeginning ((told_by self.old).output name.now) ((told_by self.new).output name.now) bytes.now) }
         ensures rest { KeepsButOutput name.now (told_by self.old) (told_by self.new) }
-        ensures cause { HasCauseIn (writing_of name.now) (faults_of self.old) (faults_of self.new) result }
+        ensures cause { TellsFailureIn (writing_of name.now) (faults_of self.old) (faults_of self.new) result }
     {
         if self.calls.is_to_fail() {
             return Err(self.calls.fault());
@@ -186,9 +186,9 @@ impl Shelf for MemShelf {
         ensures call { MadeShelfCall self.old self.new }
         ensures fitting { (told_by self.new).printed ≡ Some (self.old.printed.bytes ++ added_bytes self.old.calls self.old.printed bytes.now) }
         ensures all { OnOk result (Appends (told_by self.old).printed (told_by self.new).printed bytes.now) }
-        ensures part { OnErr result (AppendsPart (told_by self.old).printed (told_by self.new).printed bytes.now) }
+        ensures part { OnErr result (AppendsBeginning (told_by self.old).printed (told_by self.new).printed bytes.now) }
         ensures rest { KeepsButPrinted (told_by self.old) (told_by self.new) }
-        ensures cause { HasCauseIn printing_of (faults_of self.old) (faults_of self.new) result }
+        ensures cause { TellsFailureIn printing_of (faults_of self.old) (faults_of self.new) result }
     {
         if self.calls.is_to_fail() || !self.printed.add(bytes) {
             return Err(self.calls.fault());
@@ -197,10 +197,10 @@ impl Shelf for MemShelf {
     }
 }
 
-/// Moves the front of what is left behind a place to the front of the buffer, and tells how much that is.
+/// Moves the beginning of what is left after a place to the beginning of the buffer, and gives the number of bytes.
 fn move_beginning(bytes: &[u8], at: usize, buf: &mut [u8]) -> usize
     ensures count { result ≡ min (length bytes.now - at) (length buf.old) }
-    ensures front { take result buf.new ≡ take result (drop at bytes.now) }
+    ensures beginning { take result buf.new ≡ take result (drop at bytes.now) }
     ensures fits { at + result < 2 ^ 64 }
 {
     if bytes.len() <= at {
@@ -224,7 +224,7 @@ fn unpicked_files(alloc: Global, files: Vec<(String, Vec<u8>)>) -> Result<Vec<Me
     Ok(shelved)
 }
 
-/// An empty output under each of these names, with room for so many bytes.
+/// An empty output under each of these names, with room for this many bytes.
 fn empty_outputs(alloc: Global, names: Vec<String>, room: usize) -> Result<Vec<MemOutput>, NoMemory>
     ensures { IfOk result (λ v. v.items ≡ map (empty_output room) names.items) }
 {

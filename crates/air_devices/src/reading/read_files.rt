@@ -1,4 +1,4 @@
-//! Which files were read, however they were named, linked or reached: each by its device and its number there.
+//! Which files were read: each is identified by its device and its number there, under any name, link or path.
 //!
 //! There is room for sixteen, and no call takes memory.
 
@@ -13,7 +13,7 @@ use std::os::unix::fs::MetadataExt;
 /// The most files.
 const MOST_FILES: usize = 16;
 
-/// Which file it is.
+/// What identifies a file.
 #[derive(Clone, Copy, Default)]
 pub(crate) struct FileId {
     device: u64,
@@ -21,7 +21,7 @@ pub(crate) struct FileId {
 }
 
 impl FileId {
-    /// Which file an open file is.
+    /// The identity of an open file.
     pub fn of<F: OpenFile>(file: &F) -> io::Result<FileId> {
         let known = file.metadata()?;
         Ok(FileId {
@@ -55,7 +55,7 @@ impl ReadFiles {
         read.any(|read| read.device == id.device && read.inode == id.inode)
     }
 
-    /// Adds a file, where it isn't among them; it fails where there is no room.
+    /// Adds a file, if it isn't among them; it fails if there is no room.
     #[tactic(auto, using(crate::proofs::ReadFileLemmas::is_added, crate::proofs::ReadFileLemmas::stays_among))]
     pub fn add(&mut self, id: FileId) -> io::Result<()>
         ensures added { OnOk result (is_among id self.new.ids.items ≡ true) }

@@ -1,6 +1,6 @@
-//! Bytes in a room of fixed size: the memory is taken at once, and writing to it takes none.
+//! Bytes in a room of fixed size: the memory is taken when the room is made, and writing takes none.
 //!
-//! Contracts see the bytes that were written and the room. What does not fit is left out, and the answer says so.
+//! Contracts see the bytes that were written and the room. What doesn't fit is left out, and the answer says so.
 
 ghost use Rattle.std.specs.Prelude.{◌≡◌, ◌≤◌, ◌+◌, ◌-◌, ◌++◌, ◌↔◌, [], length, take, IfOk, IsTrue};
 
@@ -27,7 +27,7 @@ impl Model for FixedBytes {
 }
 
 impl FixedBytes {
-    /// No bytes, with room for so many.
+    /// No bytes, with room for this many.
     pub fn new(alloc: Global, room: usize) -> Result<FixedBytes, NoMemory>
         ensures { IfOk result (λ text. text ≡ record { bytes = []; room = room }) }
     {
@@ -42,14 +42,14 @@ impl FixedBytes {
         &self.buffer[..self.len]
     }
 
-    /// Makes room again for all.
+    /// Drops the bytes; the room stays.
     pub fn clear(&mut self)
         ensures { self.new ≡ record self.old { bytes = [] } }
     {
         self.len = 0;
     }
 
-    /// Adds what fits of the bytes, and tells whether all of them did.
+    /// Adds what fits of the bytes, and says whether all of them fit.
     pub fn add(&mut self, bytes: &[u8]) -> bool
         ensures added { self.new ≡ record self.old { bytes = self.old.bytes ++ take (self.old.room - length self.old.bytes) bytes.now } }
         ensures whole { IsTrue result ↔ (length self.old.bytes + length bytes.now ≤ self.old.room) }

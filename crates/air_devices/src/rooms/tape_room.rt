@@ -1,7 +1,7 @@
-//! A tape in a room of fixed size: the memory is taken at once, and adding a record takes none.
+//! A tape in a room of fixed size: the memory is taken when the room is made, and adding a record takes none.
 //!
-//! Contracts see the records and the room. A record goes behind those before it with its length in four bytes, or, where
-//! there is no room for all of it, isn't added at all, and the answer says so.
+//! Contracts see the records and the room. A record is added after those before it, with its length in four bytes. If there is
+//! no room for all of it, it isn't added at all, and the answer says so.
 
 ghost use Rattle.std.specs.Prelude.{◌≡◌, ◌≤◌, ◌<◌, ◌+◌, ◌^◌, ◌++◌, [], ◌∷◌, length, not, if◌then◌else◌, vec_capacity, vec_len, IfOk};
 ghost use Rattle.air_model.specs.Tapes.{record_bytes, tape_of};
@@ -30,7 +30,7 @@ impl Model for TapeRoom {
 }
 
 impl TapeRoom {
-    /// No records, with room for a tape of so many bytes.
+    /// No records, with room for a tape of this many bytes.
     pub fn new(alloc: Global, room: usize) -> Result<TapeRoom, NoMemory>
         ensures { IfOk result (λ t. t ≡ no_records room) }
     {
@@ -49,14 +49,14 @@ impl TapeRoom {
         self.tape.as_slice()
     }
 
-    /// How many records there are.
+    /// The number of records.
     pub fn count(&self) -> usize
         ensures { result ≡ length self.now.records }
     {
         self.count
     }
 
-    /// Forgets the records; the room stays.
+    /// Drops the records; the room stays.
     pub fn clear(&mut self)
         ensures { self.new ≡ no_records self.old.room }
     {
@@ -64,7 +64,7 @@ impl TapeRoom {
         self.count = 0;
     }
 
-    /// Adds a record, where there is room for it and its length, and tells whether there was.
+    /// Adds a record if there is room for it and its length, and says whether there was.
     pub fn add(&mut self, bytes: &[u8]) -> bool
         requires { length bytes.now < 2 ^ 32 }
         ensures whole { result ≡ not (overflows_record self.old bytes.now) }

@@ -1,13 +1,13 @@
 //! What the system said of a call that failed.
 //!
-//! Nothing of it takes memory: the name is kept in room of its own, as far as it fits.
+//! Nothing here takes memory: as much of the name is kept as its own room has place for.
 
 ghost use Rattle.std.specs.Prelude.{◌≡◌, ◌≤◌, length, take};
 
 use arrayvec::ArrayString;
 use std::{fmt, io};
 
-/// How many bytes of a name there is room for, as the system has it.
+/// How many bytes of a name there is room for, which is the system's own limit.
 pub(crate) const NAME_ROOM: usize = 4096;
 
 /// What was done.
@@ -45,11 +45,11 @@ impl FileFailure {
     pub(crate) fn new(call: FileCall, name: &str, error: io::Error) -> FileFailure
         ensures call { result.call ≡ call }
         ensures name { length name.now ≤ NAME_ROOM → result.name.bytes ≡ name.now }
-        ensures front { result.name.bytes ≡ take (length result.name.bytes) name.now }
+        ensures beginning { result.name.bytes ≡ take (length result.name.bytes) name.now }
         ensures error { result.error ≡ error }
     {
         let mut kept = ArrayString::new();
-        kept.push_str(front(name));
+        kept.push_str(beginning(name));
         FileFailure {
             call,
             name: kept,
@@ -64,7 +64,7 @@ impl FileFailure {
         self.call
     }
 
-    /// The name that the call was given, up to its first 4,096 bytes; a print has none.
+    /// The first 4,096 bytes of the name that the call was given; a print has none.
     pub fn name(&self) -> &str
         ensures { result.now ≡ self.now.name.bytes }
     {
@@ -89,9 +89,9 @@ impl fmt::Display for FileFailure {
 }
 
 /// As much of a name as there is room for, up to the end of a character.
-fn front(name: &str) -> &str
+fn beginning(name: &str) -> &str
     ensures whole { length name.now ≤ NAME_ROOM → result.now ≡ name.now }
-    ensures front { result.now ≡ take (length result.now) name.now }
+    ensures beginning { result.now ≡ take (length result.now) name.now }
     ensures fits { length result.now ≤ NAME_ROOM }
 {
     if name.len() <= NAME_ROOM {

@@ -1,15 +1,14 @@
 //! A shelf over real files and standard output.
 //!
-//! It tells nothing of what it holds, since no contract can say what a file keeps. One number stands for all of its
-//! counts; what the system said of the last failure is kept. It reads on in the file that was picked last, and of another
-//! name it reads nothing. No output of it changes a file that it has read, whatever the name: such an output is refused
-//! before it is touched. It has room for sixteen such files, and for names of 4,096 bytes: a pick past either fails.
-//! No call takes memory.
+//! It tells nothing of what it holds, since no contract can say what a file keeps. It has one number for all of its counts, and
+//! keeps what the system said of the last failure. It reads on in the file that was picked last; under any other name it reads
+//! nothing. No output of it changes a file that it has read, under any name: such an output is refused before it is touched. It
+//! has room for sixteen such files, and for names of 4,096 bytes; a pick past either limit fails. No call takes memory.
 
 ghost use Rattle.std.specs.Prelude.{◌≡◌, ◌≢◌, ◌≤◌, ◌<◌, [], None, Ok, Some, true, length, IsErr, IsSome, OnErr, OnOk};
 ghost use Rattle.std.specs.Io.{ReadsAtMost};
 ghost use Rattle.std.specs.Option.{option_map};
-ghost use Rattle.air_devices.specs.Counts.{HasCauseIn, Rose, one_count, printing_of, reading_of, writing_of};
+ghost use Rattle.air_devices.specs.Counts.{Rose, TellsFailureIn, one_count, printing_of, reading_of, writing_of};
 ghost use Rattle.air_devices.specs.FileFailures.{IsLastFailure, KeepsLast};
 ghost use Rattle.air_devices.specs.ReadFiles.{is_among};
 ghost use Rattle.air_devices.specs.Shelves.{untold_with};
@@ -50,7 +49,7 @@ impl<R: Files + Print + Drop> FileShelf<R> {
         }
     }
 
-    /// What the system said of the last call that failed; None where none did.
+    /// What the system said of the last call that failed; None if none failed.
     pub fn last_failure(&self) -> Option<&FileFailure>
         ensures { option_map (λ failure. failure.now) result ≡ self.now.last }
     {
@@ -70,8 +69,8 @@ impl<R: Files + Print + Drop> FileShelf<R> {
         Failed
     }
 
-    /// Where there is room for one more file that was read, this file is one, and from now on the one that is picked,
-    /// by this name.
+    /// If there is room for one more file that was read, this file becomes one, and is from now on the one that is picked, by
+    /// this name.
     fn set_picked(&mut self, file: R::File, id: FileId, name: &str) -> io::Result<()>
         requires { length name.now ≤ NAME_ROOM }
         ensures picked { OnOk result (self.new.picked ≡ Some file) }
@@ -104,7 +103,7 @@ impl<R: Files + Print + Drop> FileShelf<R> {
         self.set_picked(file, id, name)
     }
 
-    /// Reads on in the file that was picked last, where it has this name; nothing before any was picked.
+    /// Reads on in the file that was picked last, if it has this name; it reads nothing before any file was picked.
     fn read_picked(&mut self, name: &str, buf: &mut [u8]) -> io::Result<usize>
         requires { 0 < length buf.old }
         ensures bound { ReadsAtMost result buf.new }
@@ -122,7 +121,7 @@ impl<R: Files + Print + Drop> FileShelf<R> {
         file.read(buf)
     }
 
-    /// Opens an output, which must be no file that was read. It is as it was, or new.
+    /// Opens an output, which must not be a file that was read. The output is unchanged, or new.
     fn open_to_write(&self, how: &OpenOptions, name: &str) -> io::Result<R::File> {
         let file = how.open(&self.rt, name)?;
         if self.read.has(FileId::of(&file)?) {
@@ -131,7 +130,7 @@ impl<R: Files + Print + Drop> FileShelf<R> {
         Ok(file)
     }
 
-    /// Makes an output empty. What is no plain file, as a pipe or a device, holds nothing.
+    /// Makes an output empty. An output that is no plain file, such as a pipe or a device, holds nothing.
     fn empty_output(&self, name: &str) -> io::Result<()> {
         let file = self.open_to_write(OpenOptions::new().write(true).create(true), name)?;
         if file.metadata()?.is_file() {
@@ -140,7 +139,7 @@ impl<R: Files + Print + Drop> FileShelf<R> {
         Ok(())
     }
 
-    /// Writes behind what an output holds.
+    /// Writes after what an output holds.
     fn add_to_output(&self, name: &str, bytes: &[u8]) -> io::Result<()> {
         let mut file = self.open_to_write(OpenOptions::new().append(true), name)?;
         file.write_all(bytes)
@@ -155,7 +154,7 @@ impl<R: Files + Print + Drop> Shelf for FileShelf<R> {
         ensures named { OnOk result (self.new.name.bytes ≡ name.now) }
         ensures stays { (id : FileId) → is_among id self.old.read.ids.items ≡ true → is_among id self.new.read.ids.items ≡ true }
         ensures kept { OnErr result ((self.new.picked ≡ self.old.picked) × (self.new.name ≡ self.old.name)) }
-        ensures cause { HasCauseIn (reading_of name.now) (one_count self.old.faults) (one_count self.new.faults) result }
+        ensures cause { TellsFailureIn (reading_of name.now) (one_count self.old.faults) (one_count self.new.faults) result }
         ensures last { KeepsLast FileCall.Pick name.now self.old.last self.new.last result }
     {
         match self.open_to_read(name) {
@@ -169,7 +168,7 @@ impl<R: Files + Print + Drop> Shelf for FileShelf<R> {
         ensures bound { ReadsAtMost result buf.new }
         ensures unpicked { self.old.picked ≡ None → (result ≡ Ok 0) × (self.new.picked ≡ None) }
         ensures other { IsSome self.old.picked → self.old.name.bytes ≢ name.now → IsErr result }
-        ensures cause { HasCauseIn (reading_of name.now) (one_count self.old.faults) (one_count self.new.faults) result }
+        ensures cause { TellsFailureIn (reading_of name.now) (one_count self.old.faults) (one_count self.new.faults) result }
         ensures last { KeepsLast FileCall.Read name.now self.old.last self.new.last result }
         ensures picked { IsSome self.old.picked → IsSome self.new.picked }
         ensures rest { self.new ≡ record self.old { picked = self.new.picked; faults = self.new.faults; last = self.new.last } }
@@ -181,7 +180,7 @@ impl<R: Files + Print + Drop> Shelf for FileShelf<R> {
     }
 
     fn create(&mut self, name: &str) -> Result<(), Failed>
-        ensures cause { HasCauseIn (writing_of name.now) (one_count self.old.faults) (one_count self.new.faults) result }
+        ensures cause { TellsFailureIn (writing_of name.now) (one_count self.old.faults) (one_count self.new.faults) result }
         ensures last { KeepsLast FileCall.Create name.now self.old.last self.new.last result }
         ensures rest { self.new ≡ record self.old { faults = self.new.faults; last = self.new.last } }
     {
@@ -192,7 +191,7 @@ impl<R: Files + Print + Drop> Shelf for FileShelf<R> {
     }
 
     fn append(&mut self, name: &str, bytes: &[u8]) -> Result<(), Failed>
-        ensures cause { HasCauseIn (writing_of name.now) (one_count self.old.faults) (one_count self.new.faults) result }
+        ensures cause { TellsFailureIn (writing_of name.now) (one_count self.old.faults) (one_count self.new.faults) result }
         ensures last { KeepsLast FileCall.Append name.now self.old.last self.new.last result }
         ensures rest { self.new ≡ record self.old { faults = self.new.faults; last = self.new.last } }
     {
@@ -203,7 +202,7 @@ impl<R: Files + Print + Drop> Shelf for FileShelf<R> {
     }
 
     fn print(&mut self, bytes: &[u8]) -> Result<(), Failed>
-        ensures cause { HasCauseIn printing_of (one_count self.old.faults) (one_count self.new.faults) result }
+        ensures cause { TellsFailureIn printing_of (one_count self.old.faults) (one_count self.new.faults) result }
         ensures last { KeepsLast FileCall.Print [] self.old.last self.new.last result }
         ensures rest { self.new ≡ record self.old { faults = self.new.faults; last = self.new.last } }
     {

@@ -51,7 +51,7 @@ impl NetFailure {
         self.call
     }
 
-    /// The port that the device was aimed at or tuned to; None where it was not.
+    /// The port that the device was aimed at or tuned to; None if it wasn't.
     pub fn port(&self) -> Option<u16>
         ensures { result ≡ self.now.port }
     {

@@ -1,14 +1,13 @@
-//! An ear over UDP on this machine alone: what comes to 127.0.0.1 at the port that it is tuned to, whoever sent it.
+//! An ear over UDP on this machine only: it hears what is sent to 127.0.0.1 at the port that it is tuned to, by anyone.
 //!
-//! It tells nothing of what is still to be heard, since no contract can say what a socket gives; what the system said of the
-//! last failure is kept. A datagram that is longer than the buffer is cut to it, and an empty one is the
-//! end mark. For the first datagram it waits without a limit; from then on a silence of some seconds is the end, too, since the end
-//! mark may be lost.
+//! It tells nothing of what is still to be heard, since no contract can say what a socket gives. It keeps what the system said
+//! of the last failure. A datagram that is longer than the buffer is cut to it, and an empty one is the end mark. It waits for
+//! the first datagram without a limit. After that a silence of some seconds is the end too, since the end mark may be lost.
 
 ghost use Rattle.std.specs.Prelude.{◌≡◌, ◌≤◌, ◌<◌, None, Some, length, IfOk};
 ghost use Rattle.std.specs.Io.{ReadsAtMost};
 ghost use Rattle.std.specs.Option.{option_map};
-ghost use Rattle.air_devices.specs.Counts.{HasCause, Rose};
+ghost use Rattle.air_devices.specs.Counts.{Rose, TellsFailure};
 ghost use Rattle.air_devices.specs.Ears.{Hears};
 ghost use Rattle.air_devices.specs.NetFailures.{IsLastOf, KeepsLastOf};
 ghost use Rattle.air_devices.specs.Untold.{untold_ear};
@@ -21,10 +20,10 @@ use std::io;
 use std::net::{Net, UdpSocket};
 use std::time::Duration;
 
-/// After how many seconds of silence an ear ends where nothing else is asked for.
+/// After how many seconds of silence an ear ends if nothing else is asked for.
 pub const SILENCE: u32 = 30;
 
-/// A socket that hears, and its port; after how many seconds of silence it ends, and whether it does so yet.
+/// A socket that hears, and its port; after how many seconds of silence it ends, and whether that limit holds yet.
 #[derive(Drop)]
 pub struct UdpEar<R: Net + Drop> {
     net: R,
@@ -36,8 +35,8 @@ pub struct UdpEar<R: Net + Drop> {
     last: Option<NetFailure>,
 }
 
-/// How many bytes a datagram put into the buffer, and 0 where there is a limit to the wait and none came. A stop of the process can end
-/// such a wait early; then it goes on.
+/// The number of bytes that a datagram put into the buffer; 0 if the wait is limited and no datagram came. A stop of the
+/// process can end such a wait early; the wait is then continued.
 fn receive_some(socket: &UdpSocket, buf: &mut [u8], is_limited: bool) -> io::Result<usize>
     ensures { ReadsAtMost result buf.new }
 {
@@ -61,7 +60,8 @@ impl<R: Net + Drop> UdpEar<R> {
         UdpEar::with_silence(net, SILENCE)
     }
 
-    /// An ear that wasn't tuned, and ends after so many seconds of silence once it has heard a datagram; with 0 it doesn't.
+    /// An ear that wasn't tuned, and that ends after this many seconds of silence once it has heard a datagram; with 0 it
+    /// doesn't end so.
     pub fn with_silence(net: R, silence: u32) -> Self
         ensures counts { result.faults ≡ 0 }
         ensures port { result.port ≡ None }
@@ -78,7 +78,7 @@ impl<R: Net + Drop> UdpEar<R> {
         }
     }
 
-    /// What the system said of the last call that failed; None where none did.
+    /// What the system said of the last call that failed; None if none failed.
     pub fn last_failure(&self) -> Option<&NetFailure>
         ensures { option_map (λ failure. failure.now) result ≡ self.now.last }
     {
@@ -98,7 +98,8 @@ impl<R: Net + Drop> UdpEar<R> {
         Failed
     }
 
-    /// Hears a datagram, or a silence; it fails where no tuning in has succeeded. One that fails leaves the socket of an earlier one.
+    /// Hears a datagram, or a silence; it fails if no tuning in has succeeded. A tuning in that fails leaves the socket of an
+    /// earlier one.
     fn receive(&mut self, buf: &mut [u8]) -> io::Result<Heard>
         requires { 0 < length buf.old }
         ensures heard { IfOk result (Hears None None buf.new) }
@@ -124,7 +125,7 @@ impl<R: Net + Drop> Ear for UdpEar<R> {
 
     fn tune_in(&mut self, port: u16) -> Result<(), Failed>
         ensures tuned { self.new.port ≡ Some port }
-        ensures cause { HasCause self.old.faults self.new.faults result }
+        ensures cause { TellsFailure self.old.faults self.new.faults result }
         ensures last { KeepsLastOf NetCall.TuneIn (Some port) self.old.last self.new.last result }
     {
         self.port = Some(port);
@@ -141,7 +142,7 @@ impl<R: Net + Drop> Ear for UdpEar<R> {
     fn hear(&mut self, buf: &mut [u8]) -> Result<Heard, Failed>
         requires { 0 < length buf.old }
         ensures heard { IfOk result (Hears None None buf.new) }
-        ensures cause { HasCause self.old.faults self.new.faults result }
+        ensures cause { TellsFailure self.old.faults self.new.faults result }
         ensures last { KeepsLastOf NetCall.Hear self.old.port self.old.last self.new.last result }
         ensures rest { self.new ≡ record self.old { is_limited = self.new.is_limited; faults = self.new.faults; last = self.new.last } }
     {

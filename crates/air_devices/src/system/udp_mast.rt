@@ -1,13 +1,13 @@
-//! A mast over UDP on this machine alone: to 127.0.0.1, at the port that it is aimed at.
+//! A mast over UDP on this machine only: it sends to 127.0.0.1, to the port that it is aimed at.
 //!
-//! It tells nothing of what it sent, since no contract can say what a socket takes; what the system said of the last failure is
-//! kept. It sends from a socket that isn't connected, so that no send fails because nobody listens. The end mark is an empty
-//! datagram, which is sent three times. It waits between datagrams (`paces`), and before the end, so that whoever listens on this
-//! machine can hear them all; no clause speaks of time.
+//! It tells nothing of what it sent, since no contract can say what a socket takes. It keeps what the system said of the last
+//! failure. It sends from a socket that isn't connected, so no send fails because nobody listens. The end mark is an empty
+//! datagram, which is sent three times. It waits between datagrams (`paces`) and before the end, so that anyone who listens on
+//! this machine can hear them all. No clause mentions time.
 
 ghost use Rattle.std.specs.Prelude.{◌≡◌, ◌≤◌, ◌<◌, [], None, Some, IsErr};
 ghost use Rattle.std.specs.Option.{option_map};
-ghost use Rattle.air_devices.specs.Counts.{HasCause, Rose};
+ghost use Rattle.air_devices.specs.Counts.{Rose, TellsFailure};
 ghost use Rattle.air_devices.specs.NetFailures.{IsLastOf, KeepsLastOf};
 ghost use Rattle.air_devices.specs.Untold.{untold_mast};
 
@@ -19,13 +19,13 @@ use std::net::{Net, SocketAddr, UdpSocket};
 use std::time::{Clock, Duration};
 use std::{io, thread};
 
-/// How long it waits before the end, in milliseconds: a full buffer is read in less.
+/// How long the mast waits before the end, in milliseconds: a full buffer is read in less.
 const REST_BEFORE_END: u64 = 100;
 
 /// How often the end mark is sent, since a datagram may be lost.
 const END_MARKS: u32 = 3;
 
-/// How long it waits between two of these, in milliseconds.
+/// How long the mast waits between two end marks, in milliseconds.
 const REST_BETWEEN_MARKS: u64 = 20;
 
 /// The address on this machine with this port.
@@ -54,7 +54,8 @@ impl<R: Net + Clock + Drop> UdpMast<R> {
         UdpMast::with_rate(rt, None)
     }
 
-    /// A mast that wasn't aimed, and sends so many datagrams a second as far as it can, where a rate is given; 0 counts as 1.
+    /// A mast that wasn't aimed, and that sends this many datagrams a second as far as it can, if a rate is given; 0 counts as
+    /// 1.
     pub fn with_rate(rt: R, rate: Option<u32>) -> Self
         ensures counts { result.faults ≡ 0 }
         ensures port { result.port ≡ None }
@@ -70,7 +71,7 @@ impl<R: Net + Clock + Drop> UdpMast<R> {
         }
     }
 
-    /// What the system said of the last call that failed; None where none did.
+    /// What the system said of the last call that failed; None if none failed.
     pub fn last_failure(&self) -> Option<&NetFailure>
         ensures { option_map (λ failure. failure.now) result ≡ self.now.last }
     {
@@ -90,7 +91,8 @@ impl<R: Net + Clock + Drop> UdpMast<R> {
         Failed
     }
 
-    /// Sends a datagram of all of these bytes; it fails where no aim has succeeded; a failed one leaves the earlier socket.
+    /// Sends a datagram of all of these bytes; it fails if no aim has succeeded. An aim that fails leaves the socket of an
+    /// earlier one.
     fn send_all(&self, bytes: &[u8]) -> io::Result<()>
         ensures { self.now.port ≡ None → IsErr result }
     {
@@ -103,7 +105,7 @@ impl<R: Net + Clock + Drop> UdpMast<R> {
         Ok(())
     }
 
-    /// Sends the end mark, and some time later twice more; it fails where the first fails.
+    /// Sends the end mark, and twice more some time later; it fails if the first send fails.
     fn send_end(&self) -> io::Result<()>
         ensures { self.now.port ≡ None → IsErr result }
     {
@@ -122,7 +124,7 @@ impl<R: Net + Clock + Drop> Mast for UdpMast<R> {
 
     fn aim(&mut self, port: u16) -> Result<(), Failed>
         ensures aimed { self.new.port ≡ Some port }
-        ensures cause { HasCause self.old.faults self.new.faults result }
+        ensures cause { TellsFailure self.old.faults self.new.faults result }
         ensures last { KeepsLastOf NetCall.Aim (Some port) self.old.last self.new.last result }
     {
         self.port = Some(port);
@@ -137,7 +139,7 @@ impl<R: Net + Clock + Drop> Mast for UdpMast<R> {
 
     fn send(&mut self, bytes: &[u8]) -> Result<(), Failed>
         ensures unaimed { self.old.port ≡ None → IsErr result }
-        ensures cause { HasCause self.old.faults self.new.faults result }
+        ensures cause { TellsFailure self.old.faults self.new.faults result }
         ensures last { KeepsLastOf NetCall.Send self.old.port self.old.last self.new.last result }
         ensures rest { self.new ≡ record self.old { pace = self.new.pace; faults = self.new.faults; last = self.new.last } }
     {
@@ -150,7 +152,7 @@ impl<R: Net + Clock + Drop> Mast for UdpMast<R> {
 
     fn finish(&mut self) -> Result<(), Failed>
         ensures unaimed { self.old.port ≡ None → IsErr result }
-        ensures cause { HasCause self.old.faults self.new.faults result }
+        ensures cause { TellsFailure self.old.faults self.new.faults result }
         ensures last { KeepsLastOf NetCall.Finish self.old.port self.old.last self.new.last result }
         ensures rest { self.new ≡ record self.old { faults = self.new.faults; last = self.new.last } }
     {

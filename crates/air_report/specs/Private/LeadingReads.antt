@@ -1,4 +1,4 @@
--- For private steps alone. The leading place and the read of a text, by the digits there and what follows them.
+-- For private steps alone. The leading place and the leading read of a text, by its leading digits and what follows them.
 use Rattle.std.specs.Prelude.{ℕ, List, Option, Some, None, drop, if◌then◌else◌}
 use Rattle.air_base.specs.LeadingParts.{after_digits, after_part, begins, digits_of, first_part}
 use Rattle.air_base.specs.Numbers.{number_of}
@@ -6,7 +6,7 @@ use Rattle.air_base.specs.declared.verdicts.ReadOf.{ReadOf}
 use Rattle.item_catalog.specs.Spelled.{spelled_then as ◌>>=◌}
 use Rattle.air_report.specs.LineTexts.{short_of, spelled_item}
 
--- The item and the cycle of the leading place, and the text behind it.
+-- The item and the cycle of the leading place, and the text after it.
 unfoldable pub leading_place : List ℕ → Option (ℕ × ℕ × List ℕ)
 leading_place text = do
   item ← spelled_item (digits_of text)

@@ -1,4 +1,4 @@
--- For private steps alone. What is answered of a record, and what it adds to the lines before it.
+-- For private steps alone. The answer on a record, and what the record adds to the lines before it.
 use Rattle.std.specs.Prelude.{◌≡◌, ◌<◌, ◌++◌, ⊤, [], ◌∷◌, Option, Result, Ok, Err}
 use Rattle.air_model.specs.Decks.{Deck}
 use Rattle.air_base.specs.declared.limits.TheConstants.{MOST_UPDATERS}
@@ -14,7 +14,7 @@ use Rattle.air_report.specs.declared.reading.lines.EventLine.TheVariants.{Commit
 use Rattle.air_report.specs.declared.reading.lines.ReportLine.{ReportLine}
 use Rattle.air_report.specs.declared.reading.lines.ReportLine.TheVariants.{Event, Verdict, Counts, Glance, Look}
 
--- The lines with one more.
+-- The lines with one more, in its section.
 abbrev pub with_one_line : ReportLines → ReportLine → ReportLines
 with_one_line r (Event line) = record r { events = r.events ++ line ∷ [] }
 with_one_line r (Verdict line) = record r { verdicts = r.verdicts ++ line ∷ [] }
@@ -26,21 +26,21 @@ with_one_line r (Look line) = record r { looks = r.looks ++ line ∷ [] }
 abbrev pub line_record_kind : Deck → ReportLines → Result ReportLine ReportFaultKind → Option ReportFaultKind
 line_record_kind deck before spelled = least_kind (line_tests deck before) spelled
 
--- A call adds what a record spells, where no kind applies; else it tells the least. What it leaves then is not told.
+-- A call adds what a record spells if no kind applies; else it answers the least kind, and says nothing of the lines.
 abbrev pub AddsLine : {A : Type 0} → Result A (Refusal ReportFaultKind) → Deck → Result ReportLine ReportFaultKind → ReportLines → ReportLines → Type 0
 AddsLine result deck spelled old new = Answers result (line_record_kind deck old spelled) (λ _. new ≡ with_spelled with_one_line old spelled)
 
--- Memory ran out, or this holds.
+-- The call ran out of memory, or this holds.
 abbrev pub Pushed : {A : Type 0} → Result A (Refusal ReportFaultKind) → Type 0 → Type 0
 Pushed (Ok _) Holds = Holds
 Pushed (Err refusal) Holds = refusal ≡ NoMemory
 
--- A line of the history is a start, or the next commit of an updater that there can be.
+-- A line of the history is a start, or the next commit of an updater with a possible number.
 abbrev pub CanCommit : ReportLines → EventLine → Type 0
 CanCommit before (Commit by seq) = (by < MOST_UPDATERS) × (seq ≡ commits_by by before.events)
 CanCommit before Start = ⊤
 
--- A line may be added: a commit is then its updater's next.
+-- A line may be added: if it is a commit, it is its updater's next.
 abbrev pub CanPush : ReportLines → ReportLine → Type 0
 CanPush before (Event line) = CanCommit before line
 CanPush before line = ⊤

@@ -1,4 +1,4 @@
--- For private steps alone. What contracts see of the fields of a report while it is read, and what these keep.
+-- For private steps alone. The fields of a draft as contracts see them, and what holds of them.
 use Rattle.std.specs.Prelude.{◌≡◌, ◌<◌, ℕ, get_or, length}
 use Rattle.air_base.specs.declared.limits.TheConstants.{MOST_UPDATERS}
 use Rattle.air_report.specs.ReportLines.{commits_by, starts_in}

@@ -1,7 +1,7 @@
 //! A report while it is read: the lines so far, with what they count.
 //!
-//! A call takes a record, and adds its line where no kind of fault applies; else it answers the least kind. What a draft is
-//! after a fault is told by no clause: it is thrown away.
+//! A call takes a record and adds its line if no kind of fault applies; else it answers the least kind. No clause says what a draft is after a fault:
+//! it is dropped.
 
 ghost use Rattle.std.specs.Prelude.{◌≡◌, [], Ok};
 ghost use Rattle.csv.specs.Records.{fields_of};
@@ -21,7 +21,7 @@ use item_catalog::{Deck, Refusal};
 use std::alloc::Global;
 use std::marker::Model;
 
-/// The lines so far, the number of each updater's commits, and that of starts.
+/// The lines so far, the number of each updater's commits, and the number of starts.
 #[derive(Debug, Drop)]
 pub struct ReportDraft {
     lines: ReadLines,
@@ -52,7 +52,7 @@ impl ReportDraft {
         }
     }
 
-    /// Whether a line of a later section stands among those before.
+    /// Whether a line of a later section is among those before.
     fn comes_after_later_section(&self, line: &ReportLine) -> bool
         ensures { result ≡ comes_after_later_section self.now line.now }
     {
@@ -69,7 +69,7 @@ impl ReportDraft {
         }
     }
 
-    /// Whether a line of the history is a start, or the next commit of its updater.
+    /// Whether a line of the history is a start or its updater's next commit.
     fn is_next(&self, deck: &Deck, line: EventLine) -> bool
         ensures { result ≡ is_next deck.now self.now.events line }
     {
@@ -83,7 +83,7 @@ impl ReportDraft {
         }
     }
 
-    /// Whether a line is no commit, or the next one of its updater.
+    /// Whether a line is either no commit or its updater's next one.
     fn comes_next(&self, deck: &Deck, line: &ReportLine) -> bool
         ensures { result ≡ comes_next deck.now self.now.events line.now }
     {
@@ -93,7 +93,7 @@ impl ReportDraft {
         }
     }
 
-    /// The least kind that applies to a line.
+    /// The least kind of fault that applies to a line, or `None`.
     fn kind_of(&self, deck: &Deck, line: &ReportLine) -> Option<ReportFaultKind>
         ensures { result ≡ line_record_kind deck.now self.now (Ok line.now) }
     {
@@ -112,7 +112,7 @@ impl ReportDraft {
         None
     }
 
-    /// Adds a line of the history, which is a start or its updater's next commit.
+    /// Adds a line of the history: a start, or its updater's next commit.
     fn push_event(&mut self, event: EventLine) -> Result<(), Refusal<ReportFaultKind>>
         requires { CanCommit self.old event }
         ensures { Pushed result (self.new ≡ with_one_line self.old (ReportLine.Event event)) }
@@ -126,7 +126,7 @@ impl ReportDraft {
         Ok(())
     }
 
-    /// Adds a line to which no kind applies.
+    /// Adds a line to which no kind of fault applies.
     fn push(&mut self, line: ReportLine) -> Result<(), Refusal<ReportFaultKind>>
         requires { CanPush self.old line }
         ensures { Pushed result (self.new ≡ with_one_line self.old line) }
@@ -141,7 +141,7 @@ impl ReportDraft {
         Ok(())
     }
 
-    /// Adds the line of a record.
+    /// Adds the line that a record spells, or answers the least kind of fault that applies to the record.
     pub fn add(
         &mut self,
         alloc: Global,

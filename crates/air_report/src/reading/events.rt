@@ -10,7 +10,7 @@ use air_history::Event;
 use item_catalog::Deck;
 use std::alloc::Global;
 
-/// The event that a line names: a start, or a commit of the deck's update.
+/// The event that a line names: a start, or a commit with the deck's update.
 fn event_in(alloc: Global, deck: &Deck, line: EventLine) -> Result<Event, NoMemory>
     requires { NamesUpdate deck.now line }
     ensures { IfOk result (λ event. event ≡ event_in deck.now line) }

@@ -1,4 +1,4 @@
-//! Why a text is no report of a deck.
+//! Why a text isn't a report of a deck.
 
 ghost use Rattle.std.specs.Prelude.{◌≡◌};
 ghost use Rattle.air_report.specs.Kinds.{report_kind_number};
@@ -13,7 +13,7 @@ use std::fmt;
 pub enum ReportError {
     /// The first faulty record of the text, counted from 1, and the least kind of fault that applies there.
     Fault { row: u32, kind: u8 },
-    /// There was no memory.
+    /// Out of memory.
     NoMemory,
 }
 
@@ -29,7 +29,7 @@ impl ReportError {
     }
 }
 
-/// What a kind of fault says of a record.
+/// What is wrong with a record that has a fault of this kind.
 fn what(kind: u8) -> &'static str {
     match kind {
         1 => "its tag has another number of fields",

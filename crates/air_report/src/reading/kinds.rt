@@ -1,9 +1,9 @@
-//! The kinds of a report's fault.
+//! The kinds of fault that a report can have.
 
 ghost use Rattle.std.specs.Prelude.{◌≡◌};
 ghost use Rattle.air_report.specs.Kinds.{report_kind_number};
 
-/// A kind of fault. Each has a number: of those that apply to a record, the one of the least number is told.
+/// A kind of fault, with its number. If several apply to a record, the one with the least number is answered.
 #[derive(Clone, Copy, Debug, PartialEq, Eq)]
 pub enum ReportFaultKind {
     /// The tag has another number of fields.
@@ -12,18 +12,18 @@ pub enum ReportFaultKind {
     Form,
     /// The tag is unknown.
     Tag,
-    /// A line of a later section stands before it.
+    /// A line of a later section is before it.
     Order,
     /// A commit isn't its updater's next.
     Update,
     /// A reader, a query, an attempt or a monitor isn't the deck's, or the items don't follow the query.
     Deck,
-    /// A cycle hasn't begun before it.
+    /// A cycle that it names hasn't begun before it.
     Cycle,
 }
 
 impl ReportFaultKind {
-    /// Its number.
+    /// The number of the kind, from 1.
     pub fn code(self) -> u8
         ensures { result ≡ report_kind_number self }
     {

@@ -1,4 +1,4 @@
 //! How long the text of a report may be.
 
-/// The most bytes of a report.
+/// The greatest length of a report in bytes.
 pub const MOST_REPORT_BYTES: usize = 134_217_728;

@@ -47,7 +47,7 @@ fn read_start(fields: &ByteRecord) -> Result<ReportLine, Refusal<ReportFaultKind
     Ok(ReportLine::Event(EventLine::Start))
 }
 
-/// The verdict line of an attempt's fields, and of how it ended, where that is spelled.
+/// The verdict line with these fields, if they spell one and the end of the attempt is known.
 fn read_verdict(
     alloc: Global,
     kind: Option<VerdictKind>,
@@ -99,7 +99,7 @@ fn read_ended(
     read_verdict(alloc, Some(kind), reader, query, attempt, reads)
 }
 
-/// The end of an attempt by an abort.
+/// The end of an attempt by an abort, if the fields spell one.
 fn abort_of(place: &[u8], clash: &[u8]) -> Option<VerdictKind>
     ensures { result ≡ abort_of place.now clash.now }
 {
@@ -118,7 +118,7 @@ fn read_abort(alloc: Global, fields: &ByteRecord) -> Result<ReportLine, Refusal<
     read_verdict(alloc, abort_of(place, clash), reader, query, attempt, reads)
 }
 
-/// The end of an attempt whose next read lies too far from those before it.
+/// The end of an attempt whose next read is too far from those before it, if the field spells one.
 fn aged_of(place: &[u8]) -> Option<VerdictKind>
     ensures { result ≡ aged_of place.now }
 {

@@ -9,7 +9,7 @@ ghost use Rattle.air_report.specs.Private.LeadingReads.{leading_place, leading_r
 use air_base::{ReadOf, Reads, after_byte, leading_number, read_leading_number, read_u64};
 use std::alloc::{AllocFailed, Global};
 
-/// A number as an item, where it is one.
+/// A number as an item, if it fits 16 bits.
 fn to_item(n: u64) -> Option<u16>
     ensures { result ≡ below (2 ^ 16) (Some n) }
 {
@@ -19,7 +19,7 @@ fn to_item(n: u64) -> Option<u16>
     Some(n as u16)
 }
 
-/// A number of 32 bits, where it is one.
+/// A number, if it fits 32 bits.
 fn to_short(n: u64) -> Option<u32>
     ensures { result ≡ below (2 ^ 32) (Some n) }
 {
@@ -45,7 +45,7 @@ pub fn read_short(text: &[u8]) -> Option<u32>
     to_short(read_u64(text)?)
 }
 
-/// The leading item, and the text behind its digits.
+/// The leading item, and the text after its digits.
 #[tactic(auto, unfolding(crate::specs::LineTexts::spelled_item))]
 fn leading_item(text: &[u8]) -> Option<(u16, &[u8])>
     ensures { MatchOption result (spelled_item (digits_of text.now) ≡ None) (λ f. (spelled_item (digits_of text.now) ≡ Some f.0) × (f.1.now ≡ after_digits text.now)) }
@@ -55,7 +55,7 @@ fn leading_item(text: &[u8]) -> Option<(u16, &[u8])>
     Some((item, rest))
 }
 
-/// The leading number of 32 bits, and the text behind its digits.
+/// The leading number of 32 bits, and the text after its digits.
 #[tactic(auto, unfolding(crate::specs::LineTexts::short_of))]
 fn leading_short(text: &[u8]) -> Option<(u32, &[u8])>
     ensures { MatchOption result (short_of (digits_of text.now) ≡ None) (λ f. (short_of (digits_of text.now) ≡ Some f.0) × (f.1.now ≡ after_digits text.now)) }
@@ -65,7 +65,7 @@ fn leading_short(text: &[u8]) -> Option<(u32, &[u8])>
     Some((short, rest))
 }
 
-/// The leading place, and the text behind it.
+/// The leading place, and the text after it.
 #[tactic(auto, unfolding(crate::specs::Private::LeadingReads::leading_place))]
 fn leading_place(text: &[u8]) -> Option<(u16, u32, &[u8])>
     ensures { option_map (λ f. (f.0, f.1, f.2.now)) result ≡ leading_place text.now }
@@ -89,7 +89,7 @@ pub fn read_place(text: &[u8]) -> Option<(u16, u32)>
     Some((item, cycle))
 }
 
-/// The leading read, and the text behind its part.
+/// The leading read, and the text after its part.
 #[tactic(auto, unfolding(crate::specs::Private::LeadingReads::leading_read))]
 fn leading_read(text: &[u8]) -> Option<(ReadOf, &[u8])>
     ensures { option_map (λ f. (f.0, f.1.now)) result ≡ leading_read text.now }
@@ -107,7 +107,7 @@ fn read_leading(text: &[u8]) -> Option<(ReadOf, &[u8])>
     leading_read(text)
 }
 
-/// The reads of the list that a text spells; none where it spells no list.
+/// The reads of the list that a text spells, or `None` if it spells no list.
 pub fn read_reads(alloc: Global, text: &[u8]) -> Result<Option<Reads>, AllocFailed<ReadOf>>
     ensures { IfOk result (λ list. list ≡ list_of spelled_read text.now) }
 {

@@ -1,4 +1,4 @@
-//! What a line is asked against the deck, and of the cycles that began before it.
+//! The tests of a line against the deck, and against the cycles that began before it.
 
 ghost use Rattle.std.specs.Prelude.{◌≡◌, ◌==◌, map};
 ghost use Rattle.std.specs.List.{list_all, list_any};
@@ -38,7 +38,7 @@ fn was_read(reads: &[ReadOf], item: u16) -> bool
     false
 }
 
-/// Whether the items of reads follow a query, where the attempt ended so.
+/// Whether the items of reads follow a query, for an attempt with this end.
 fn follow(query: &[u16], reads: &[ReadOf], end: VerdictKind) -> bool
     ensures { result ≡ follow query.now (map read_item reads.now) end }
 {
@@ -55,7 +55,7 @@ fn follow(query: &[u16], reads: &[ReadOf], end: VerdictKind) -> bool
     }
 }
 
-/// Whether a verdict is on an attempt of the deck, however it ended.
+/// Whether a verdict is on an attempt of the deck, regardless of how it ended.
 fn is_attempt(deck: &Deck, line: &VerdictLine) -> bool
     ensures { result ≡ is_attempt deck.now line.now }
 {
@@ -74,7 +74,7 @@ fn is_attempt(deck: &Deck, line: &VerdictLine) -> bool
     follow(query, line.reads.as_slice(), line.verdict.kind)
 }
 
-/// Whether an attempt may end so in this version: aged only where buckets have ages.
+/// Whether an attempt may end like this in this version: aged only if buckets have ages.
 fn may_end(version: u8, end: VerdictKind) -> bool
     ensures { result ≡ may_end version end }
 {
@@ -84,14 +84,14 @@ fn may_end(version: u8, end: VerdictKind) -> bool
     }
 }
 
-/// Whether a verdict is on an attempt of the deck, which may end so.
+/// Whether a verdict is on an attempt of the deck, with an end that it may have.
 fn is_tried(deck: &Deck, line: &VerdictLine) -> bool
     ensures { result ≡ is_tried deck.now line.now }
 {
     is_attempt(deck, line) && may_end(deck.settings().version, line.verdict.kind)
 }
 
-/// Whether what a line names, beside updates and cycles, is the deck's.
+/// Whether all that a line names, except for updates and cycles, is the deck's.
 pub fn is_known(deck: &Deck, line: &ReportLine) -> bool
     ensures { result ≡ is_known deck.now line.now }
 {
@@ -104,7 +104,7 @@ pub fn is_known(deck: &Deck, line: &ReportLine) -> bool
     }
 }
 
-/// Whether a cycle is one of the first so many.
+/// Whether a cycle is one of the first `starts`.
 fn has_begun(starts: u64, cycle: u32) -> bool
     ensures { result ≡ has_begun starts cycle }
 {

@@ -1,4 +1,4 @@
-//! The lines that are read, and how a line is added.
+//! The lines that were read, by section, and how a line is added.
 
 ghost use Rattle.std.specs.Prelude.{◌≡◌, ◌++◌, ◌∷◌, [], if◌then◌else◌, is_ok};
 

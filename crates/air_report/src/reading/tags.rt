@@ -20,7 +20,7 @@ pub enum LineTag {
     Look,
 }
 
-/// The tag `aged`, where the version has it.
+/// The tag `aged`, if the version has it.
 fn aged_tag(version: u8) -> Option<LineTag>
     ensures { result ≡ aged_tag version }
 {
@@ -31,7 +31,7 @@ fn aged_tag(version: u8) -> Option<LineTag>
     }
 }
 
-/// The tag of this name, if the version has one.
+/// The tag with this name, if the version has it.
 fn tag_of(version: u8, text: &[u8]) -> Option<LineTag>
     ensures { result ≡ line_tag version text.now }
 {

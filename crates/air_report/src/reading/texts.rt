@@ -1,4 +1,4 @@
-//! The lines of reports read from texts: one pass over the records, each taken once and forgotten.
+//! The lines of reports read from texts: one pass over the records, each dropped once its line is read.
 
 ghost use Rattle.std.specs.Prelude.{◌≤◌, length, IfErr, IfOk};
 ghost use Rattle.air_report.specs.declared.reading.limits.TheConstants.{MOST_REPORT_BYTES};
@@ -12,7 +12,7 @@ use csv::ByteRecord;
 use item_catalog::{Deck, Records, Refusal};
 use std::alloc::Global;
 
-/// The lines of the report of the deck that a text spells, or the first faulty record of the text with the least kind that applies there.
+/// The lines of the deck's report that a text spells, or the row number of the first faulty record with the least kind that applies to it.
 pub fn read_lines(alloc: Global, deck: &Deck, bytes: &[u8]) -> Result<ReadLines, ReportError>
     requires limit { length bytes.now ≤ MOST_REPORT_BYTES }
     ensures lines { IfOk result (SpellsLines deck.now bytes.now) }

@@ -1,4 +1,4 @@
-//! The line that a refusal prints: one row of numbers behind the word `fault`.
+//! The line that a refusal prints: a row with the word `fault` and then numbers.
 
 ghost use Rattle.std.specs.Prelude.{◌≡◌, ◌∷◌, [], IfOk, codes, map};
 ghost use Rattle.air_base.specs.Numbers.{number_text};
@@ -10,7 +10,7 @@ use crate::writing::fields::{finish, put_numbers, row_writer};
 use air_base::NoMemory;
 use std::alloc::Global;
 
-/// The line that a refusal prints; nothing where the status tells no fault.
+/// The line that a refusal prints; empty if the status is no fault.
 pub fn refusal_line(alloc: Global, status: &Status) -> Result<Vec<u8>, NoMemory>
     ensures { IfOk result (λ text. text.items ≡ status_line status.now) }
 {

@@ -1,21 +1,21 @@
-//! Rows written as csv behind a text: those of reports, plans and fault lines.
+//! Rows written as CSV after a text: those of reports, plans and fault lines.
 //!
-//! A writer is ready between two rows. `put_row` and `put_numbers` take it and give it back with a row more; out of memory they
-//! let it go, with its text. `finish` gives the text of all rows. The calls that this crate makes of a row's parts change a writer
-//! where it stands, and say nothing of it after a refusal: their callers let it go.
+//! A writer is ready between two rows. `put_row` and `put_numbers` take a writer and return it with one row more; out of memory they drop it, with
+//! its text. `finish` returns the text of all rows. The calls that write part of a row change a writer in place. Their contracts say nothing of it
+//! once they are out of memory: the caller then drops it.
 
 ghost use Rattle.std.specs.Prelude.{◌≡◌, ◌+◌, ◌<◌, ◌^◌, ◌++◌, ◌∷◌, [], ℕ, List, IfOk, OnOk, length, map};
 ghost use Rattle.csv.specs.Writing.{row_text};
 ghost use Rattle.air_base.specs.Numbers.{number_text};
 ghost use Rattle.air_model.specs.Rows.{row_writer};
 ghost use Rattle.air_report.specs.RowWriters.{IsRowWriter, written_text};
-ghost use Rattle.air_report.specs.BegunRows.{IsBegun};
+ghost use Rattle.air_report.specs.Private.BegunRows.{IsBegun};
 
 use air_base::{NoMemory, write_u64};
 use csv::{Writer, WriterBuilder};
 use std::alloc::Global;
 
-/// A writer of rows behind a text.
+/// A writer of rows after a text.
 pub fn row_writer(text: Vec<u8>) -> Writer<Vec<u8>>
     ensures ready { IsRowWriter result }
     ensures text { written_text result ≡ text.items }
@@ -23,7 +23,7 @@ pub fn row_writer(text: Vec<u8>) -> Writer<Vec<u8>>
     WriterBuilder::new().flexible(true).from_writer(text)
 }
 
-/// The writer with the row of these fields added.
+/// The writer after the row of these fields.
 pub fn put_row<'a>(wtr: Writer<Vec<u8>>, fields: &[&'a [u8]]) -> Result<Writer<Vec<u8>>, NoMemory>
     requires { IsRowWriter wtr }
     ensures ready { IfOk result IsRowWriter }
@@ -45,7 +45,7 @@ pub(crate) fn add_row<'a>(wtr: &mut Writer<Vec<u8>>, fields: &[&'a [u8]]) -> Res
     wtr.write_fields(fields).map_err(|_| NoMemory)
 }
 
-/// The writer with the row of a tag and numbers added.
+/// The writer after the row of a tag and numbers.
 pub fn put_numbers(
     alloc: Global,
     wtr: Writer<Vec<u8>>,
@@ -92,7 +92,7 @@ pub fn finish(wtr: Writer<Vec<u8>>) -> Result<Vec<u8>, NoMemory>
     wtr.into_inner().map_err(|_| NoMemory)
 }
 
-/// Adds a field to the row that is begun. Between two rows one of no fields is.
+/// Adds a field to the row that is begun. Between two rows, a row of no fields is.
 pub fn put_field(wtr: &mut Writer<Vec<u8>>, field: &[u8]) -> Result<(), NoMemory>
     ensures { OnOk result ((before : List ℕ) (fields : List (List ℕ)) → length fields + 1 < 2 ^ 64
         → IsBegun before fields wtr.old → IsBegun before (fields ++ field.now ∷ []) wtr.new) }

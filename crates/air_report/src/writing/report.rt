@@ -29,7 +29,7 @@ impl Model for Report {
     ghost view = { λ r. record { history = r.history; verdicts = r.verdicts.items; counts = r.counts.items; glances = r.glances.items; looks = r.looks.items } };
 }
 
-/// Appends the text of a report.
+/// Appends the text of a report. Out of memory, it leaves `out` as it was.
 pub fn write_report(alloc: Global, report: &Report, out: &mut Vec<u8>) -> Result<(), NoMemory>
     ensures text { OnOk result (out.new.items ≡ out.old.items ++ report_text report.now) }
     ensures kept { OnErr result (out.new.items ≡ out.old.items) }

@@ -6,7 +6,7 @@ ghost use Rattle.air_base.specs.Numbers.{number_text};
 ghost use Rattle.air_base.specs.NumberLists.{list_text};
 ghost use Rattle.air_model.specs.Reports.{attempt_row, counts_row, event_row, look_row, place_text, read_text, verdict_row};
 ghost use Rattle.air_model.specs.Rows.{row_writer};
-ghost use Rattle.air_report.specs.BegunRows.{IsBegun};
+ghost use Rattle.air_report.specs.Private.BegunRows.{IsBegun};
 ghost use Rattle.air_report.specs.RowWriters.{IsRowWriter, written_text};
 
 use crate::writing::fields::{add_numbers, add_row, end_row, put_field};
@@ -103,7 +103,7 @@ pub(crate) fn put_verdict(
     Ok(())
 }
 
-/// Begins the row of a verdict: what it is, the reader, the query, the attempt and the reads.
+/// Begins the row of a verdict: its tag, the reader, the query, the attempt and the reads.
 fn put_attempt(
     alloc: Global,
     wtr: &mut Writer<Vec<u8>>,
@@ -185,7 +185,7 @@ fn add_read(read: &ReadOf, text: &mut Vec<u8>) -> Result<(), NoMemory>
     Ok(())
 }
 
-/// Writes the text of reads, with one space between each two, into an empty text.
+/// Writes the text of reads into an empty text, separated by single spaces.
 fn add_reads(reads: &[ReadOf], text: &mut Vec<u8>) -> Result<(), NoMemory>
     requires { text.old.items ≡ [] }
     ensures { OnOk result (text.new.items ≡ list_text (map read_text reads.now)) }

@@ -1,4 +1,4 @@
-//! The sections of a report: each adds the rows of its lines, behind those that stand there.
+//! The sections of a report: each call adds the rows of its lines after those already written.
 
 ghost use Rattle.std.specs.Prelude.{◌≡◌, ◌++◌, OnOk, map};
 ghost use Rattle.air_model.specs.Reports.{counts_row, event_row, look_row, verdict_row};

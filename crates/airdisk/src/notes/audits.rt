@@ -1,4 +1,4 @@
-//! What is said of an audit that was refused, or by which lines differ.
+//! Notes on an audit that was refused, or that found lines which differ.
 
 use crate::notes::word;
 use crate::plain_files::{deck_again, read_again};
@@ -12,7 +12,7 @@ use live_replay::limits::MOST_REPLAYED;
 use std::alloc::Global;
 use std::rt::Files;
 
-/// What is wrong with a report, against its deck where both can be read again.
+/// What is wrong with a report, compared with its deck if both can be read again.
 fn refused_report_note<R: Files + Print + Drop>(
     rt: &R,
     alloc: Global,
@@ -30,7 +30,7 @@ fn refused_report_note<R: Files + Print + Drop>(
     Ok(Some(note))
 }
 
-/// How many lines of a report differ from their replays; none where it can't be read again.
+/// The number of lines of a report that differ from their replays, or `None` if it can't be read again.
 fn count_differing<R: Files + Print + Drop>(
     rt: &R,
     alloc: Global,
@@ -53,7 +53,7 @@ fn count_differing<R: Files + Print + Drop>(
     Some(count)
 }
 
-/// That lines of a report differ from their replays.
+/// A note that lines of a report differ from their replays.
 fn difference_note<R: Files + Print + Drop>(
     rt: &R,
     alloc: Global,
@@ -71,7 +71,7 @@ fn difference_note<R: Files + Print + Drop>(
     Ok(Some(said))
 }
 
-/// What is said of an audit that was refused, or by which lines differ; none of another status.
+/// A note on an audit that was refused, or that found lines which differ, or `None` for another status.
 pub fn audit_note<R: Files + Print + Drop>(
     rt: &R,
     alloc: Global,

@@ -11,7 +11,7 @@ use item_catalog::Deck;
 use std::alloc::Global;
 use std::rt::Files;
 
-/// The first edition of a deck whose program is too long; none where that isn't found.
+/// The first edition of a deck whose program is too long, or `None` if that isn't found.
 fn long_edition(alloc: Global, deck: &Deck) -> Option<u32> {
     for edition in 0..deck.replans() + 1 {
         let Ok(disks) = cut(alloc, deck, edition) else {
@@ -26,7 +26,7 @@ fn long_edition(alloc: Global, deck: &Deck) -> Option<u32> {
     None
 }
 
-/// What is said of a deck of which a program would have `slots` slots: where the deck has replans, also which program.
+/// A note on a deck of which a program would have `slots` slots. If the deck has replans, it also says which program.
 pub fn plan_note<R: Files + Print + Drop>(
     rt: &R,
     alloc: Global,

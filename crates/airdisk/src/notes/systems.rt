@@ -14,7 +14,7 @@ fn is_closed_pipe(failure: &FileFailure) -> bool {
     failure.call() == FileCall::Print && failure.error().kind() == io::ErrorKind::BrokenPipe
 }
 
-/// Whether a command failed to read, and then to print that: of the read the system's words are gone.
+/// Whether a command failed to read, and then to print its refusal: the system's words on the read are lost.
 fn is_of_the_line(failure: &FileFailure, status: Status) -> bool {
     failure.call() == FileCall::Print && status == Status::ReadFault
 }
@@ -34,7 +34,7 @@ fn hint_on<'a>(failure: &FileFailure, words: &'a [String]) -> (&'static str, &'a
     ("", "")
 }
 
-/// A note on a file that can't be read, where the system's words are gone.
+/// A note on a file that can't be read, if the system's words are lost.
 fn unread_note(alloc: Global) -> Result<String, NoMemory> {
     let mut note = String::new(alloc);
     note.push_str("airdisk: a file can't be read, and the line that says so can't be printed")?;
@@ -60,7 +60,7 @@ pub fn failure_note<R: Files + Print + Drop>(
     }
 }
 
-/// What the system said of the mast or the ear that failed after so many datagrams; none where it said nothing.
+/// What the system said of the mast or the ear that failed after this number of datagrams, or `None` if it said nothing.
 pub fn air_failure_note(
     alloc: Global,
     air: Option<&NetFailure>,

@@ -1,4 +1,5 @@
--- For private steps alone. The head of a bucket: its 24 bytes before the entries, and the numbers in them; and the age of an entry.
+-- For private steps only. The head of a bucket: its 24 bytes before the entries, and the numbers in them; and the age of an
+-- entry.
 use Rattle.std.specs.Prelude.{ℕ, List, [], ◌∷◌, ◌++◌}
 use Rattle.byteorder.specs.Endian.{big_bytes}
 use Rattle.air_history.specs.Ages.{capped}
@@ -23,6 +24,6 @@ unfoldable pub head_bytes : Head → List ℕ
 head_bytes h =
     0x41 ∷ 0x44 ∷ h.version ∷ h.kind ∷ [] ++ big_bytes 2 h.edition ++ big_bytes 2 h.count ++ big_bytes 4 h.cycle ++ big_bytes 2 h.slot ++ big_bytes 2 h.item ++ big_bytes 8 h.value
 
--- The byte of an entry that is told by its age in cycle c.
+-- The byte of an entry that is given by its age in cycle c.
 abbrev pub aged_bytes : ℕ → ℕ → List ℕ
 aged_bytes c e = age_of c (capped e c) ∷ []

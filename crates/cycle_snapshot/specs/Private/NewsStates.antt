@@ -1,4 +1,4 @@
--- For private steps alone. What contracts see of the news that the two copies take in.
+-- For private steps only. What contracts see of the news that the two sides take in.
 use Rattle.std.specs.Prelude.{ℕ, List}
 use Rattle.air_history.specs.declared.histories.Event.{Event}
 use Rattle.cycle_snapshot.specs.Beginnings.{Beginning}

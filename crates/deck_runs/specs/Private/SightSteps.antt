@@ -1,4 +1,4 @@
--- For private steps alone. What monitors saw, each beside the run and at its end.
+-- For private steps alone. What monitors saw, each during the run and at its end.
 use Rattle.std.specs.Prelude.{◌≡◌, ℕ, ◌<◌, List, length, get_or, Some}
 use mathlib.Core.List.{IsPrefix}
 use Rattle.air_history.specs.declared.histories.Event.{Event}
@@ -19,7 +19,7 @@ pub record AreSights (f : PublisherState) (number : ℕ) (run : MonitorRun) (gla
   pub look_is : IsLookLineOf monitor look
   pub number_is : look.monitor ≡ number
 
--- Those of each watcher, by its place.
+-- The glances and looks of all watchers, by place.
 pub record AreAllSights (f : PublisherState) (runs : List MonitorRun) (glances looks : List LookLine) : Type 0 where
   pub glance_count : length glances ≡ length runs
   pub look_count : length looks ≡ length runs

@@ -3,7 +3,7 @@ ghost use Rattle.std.specs.Prelude.{◌≡◌, ◌<◌, ◌≤◌, ◌+◌, ◌^
 ghost use Rattle.air_history.specs.Histories.{starts};
 ghost use Rattle.air_model.specs.Aired.{Air};
 ghost use Rattle.deck_runs.specs.PublishedBatches.{AreInStep, GoesOn, IsBoardOf, IsPublishedUpTo, PublishesOn};
-ghost use Rattle.deck_runs.specs.Sendings.{CanAirIn, IsAirOf, IsCause, SendsCycles, SendsUpTo};
+ghost use Rattle.deck_runs.specs.Sendings.{CanAirIn, IsAirOf, IsFailure, SendsCycles, SendsUpTo};
 
 use crate::jobs::cycles::conduct_cycle;
 use crate::jobs::means::Means;
@@ -19,9 +19,9 @@ use std::sync::Wait;
 /// Why not all cycles were conducted.
 #[derive(Clone, Copy, Debug, PartialEq, Eq)]
 pub enum ConductFault {
-    /// The mast failed, after so many buckets of the call.
+    /// The mast failed, after this number of buckets of the call.
     Mast { sent: u64 },
-    /// There was no memory. The cycles before stand.
+    /// Out of memory. The cycles before were conducted.
     NoMemory,
 }
 
@@ -36,12 +36,13 @@ impl From<NoMemory> for ConductFault {
     }
 }
 
-/// Conducts so many cycles, in this form. A cycle starts; its fresh events are applied to the board, once each; they are published as one batch;
-/// and its buckets are sent, those of the program in force in it. What was sent are the buckets of the history that the pass has seen, for
-/// each way in which receivers may know them. Whatever the answer, the board is that of what the pass has seen up to its last start.
-/// `ConductorPass::started` tells how many cycles the pass started, `Board::n` how many values there are, and `entry_size` how many
-/// bytes the buffer needs for each; `Plans::plan` makes the deck's plans, whose programs have its items. Each cycle stands between its two
-/// gate calls, of which no clause speaks.
+/// Conducts this number of cycles, in this form. A cycle starts; its fresh events are applied to the board, once each; they are published as one
+/// batch; and the buckets of the program in force in the cycle are sent.
+///
+/// The buckets sent are those of the history that the pass has seen, by each air of this form and these plans. Regardless of the answer, the board is
+/// that of what the pass has seen up to its last start. `ConductorPass::started` gives the number of cycles that the pass started, `Board::n` the
+/// number of values, and `entry_size` the bytes that the buffer needs for each. `Plans::plan` makes the deck's plans, whose programs have its items.
+/// Each cycle is between its two gate calls; no clause speaks of these.
 pub fn conductor_job<R: Wait, M: Mast, G: Gate>(
     wait: &R,
     alloc: Global,
@@ -68,7 +69,7 @@ pub fn conductor_job<R: Wait, M: Mast, G: Gate>(
     ensures published { IfErr result (IsPublishedUpTo pass.new.seen publisher.new.batches) }
     ensures aired { (air : Air) → IsAirOf pass.old.values form plans.now air →
         MatchResult result (λ _. SendsCycles pass.old.values air cycles pass.old.seen pass.new.seen (M.state mast.old).told (M.state mast.new).told) (SendsUpTo M.state pass.old.values air cycles pass.old pass.new publisher.old publisher.new mast.old mast.new) }
-    ensures cause { MatchResult result (λ _. (M.state mast.new).faults ≡ (M.state mast.old).faults) (IsCause (M.state mast.old).faults (M.state mast.new).faults) }
+    ensures cause { MatchResult result (λ _. (M.state mast.new).faults ≡ (M.state mast.old).faults) (IsFailure (M.state mast.old).faults (M.state mast.new).faults) }
     ensures port { (M.state mast.new).port ≡ (M.state mast.old).port }
     ensures buffer { length buf.new ≡ length buf.old }
 {

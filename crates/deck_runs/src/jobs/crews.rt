@@ -1,12 +1,11 @@
 //! Who does the jobs of a run: the conductor, the updaters and the monitors, each with what its job works on.
 //!
-//! Each job's clause is carried out, whatever the schedule: a job that ends out of memory, or since the mast failed, leaves
-//! the others to go on to their own ends.
+//! Each job's contract holds regardless of the schedule. A job that ends out of memory, or after the mast failed, doesn't stop the others.
 ghost use Rattle.std.specs.Prelude.{◌≡◌, ◌≤◌, All};
 ghost use Rattle.std.specs.Thread.{IsSync};
 ghost use Rattle.air_model.specs.Decks.{values_in};
 ghost use Rattle.cycle_snapshot.specs.SnapshotStates.{new_publisher};
-ghost use Rattle.deck_runs.specs.Crews.{CanConduct, EachDone, EachWatched, HasMadeUpdates, HasNewPass, IsWatched};
+ghost use Rattle.deck_runs.specs.Private.Crews.{CanConduct, EachDone, EachWatched, HasMadeUpdates, HasNewPass, IsWatched};
 ghost use Rattle.deck_runs.specs.declared.jobs.TheConstants.{LOOKS};
 ghost use Rattle.deck_runs.specs.Private.StageSteps.{HasAired};
 
@@ -36,8 +35,8 @@ pub struct ConductorRun {
 }
 
 impl ConductorRun {
-    /// Airs the deck's cycles: what was sent are the buckets of the history that the pass has seen, which is aired by the batches that
-    /// the publisher has then, one a cycle.
+    /// Airs the deck's cycles. The buckets sent are those of the history that the pass has seen. The batches that the publisher has then air this
+    /// history, one a cycle.
     pub(crate) fn work<R: Wait, M: Mast, G: Gate>(
         &mut self,
         wait: &R,
@@ -78,8 +77,8 @@ pub struct UpdaterRun {
 }
 
 impl UpdaterRun {
-    /// Commits the deck's updates of the updater.
-    #[tactic(auto, unfolding(crate::specs::Crews::HasNewPass, crate::specs::Crews::HasMadeUpdates))]
+    /// Commits the deck's updates of this updater.
+    #[tactic(auto, unfolding(crate::specs::Private::Crews::HasNewPass, crate::specs::Private::Crews::HasMadeUpdates))]
     fn work<R: Wait, G: Gate>(
         &mut self,
         wait: &R,
@@ -109,8 +108,8 @@ pub struct MonitorRun {
 }
 
 impl MonitorRun {
-    /// Looks so many times.
-    #[tactic(auto, unfolding(crate::specs::Crews::IsWatched))]
+    /// Looks `looks` times.
+    #[tactic(auto, unfolding(crate::specs::Private::Crews::IsWatched))]
     fn work<G: Gate>(&mut self, looks: u32, gate: &G)
         requires some { 1 ≤ looks }
         ensures watched { IsWatched looks self.old self.new }
@@ -154,7 +153,7 @@ fn watch_all<R: Threads + Sync, G: Gate + Sync>(rt: &R, monitors: &mut [MonitorR
     );
 }
 
-/// All updaters beside all monitors.
+/// All updaters and, at the same time, all monitors.
 pub(crate) fn update_and_watch<R: Threads + Wait + Sync, G: Gate + Sync>(
     rt: &R,
     alloc: Global,

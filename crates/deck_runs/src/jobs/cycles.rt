@@ -11,7 +11,7 @@ ghost use Rattle.cycle_snapshot.specs.Batches.{IsBatch, batch_events};
 ghost use Rattle.control_matrix.specs.BoardSteps.{step_all};
 ghost use Rattle.deck_runs.specs.PublishedBatches.{AreInStep, GoesOn, IsBoardOf, IsPublishedUpTo, IsUpTo, PublishesOn};
 ghost use Rattle.deck_runs.specs.declared.jobs.conductors.ConductFault.TheVariants as fault;
-ghost use Rattle.deck_runs.specs.Sendings.{CanAirIn, IsAirOf, IsCause};
+ghost use Rattle.deck_runs.specs.Sendings.{CanAirIn, IsAirOf, IsFailure};
 ghost use Rattle.deck_runs.specs.Private.CycleSteps.{AddsBatch, SendsCounted, SendsInCycle};
 
 use crate::jobs::conductors::ConductFault;
@@ -56,8 +56,7 @@ fn start_fresh<R: Wait>(
     Ok(fresh)
 }
 
-/// Starts a cycle, applies its events to the board, and publishes them as one batch. Where the publisher refuses them the board has
-/// them all the same.
+/// Starts a cycle, applies its events to the board, and publishes them as one batch. If the publisher refuses them, the board still has them.
 fn begin_cycle<R: Wait>(
     means: &Means<'_, R>,
     pass: &mut ConductorPass,
@@ -91,8 +90,8 @@ fn slot_of(fault: AirFault) -> u32
     }
 }
 
-/// Conducts one cycle of a job that sent so many buckets already, with the program in force in the cycle, and gives how many buckets the
-/// cycle has. The fault tells how many buckets of the job were sent.
+/// Conducts one cycle of a job that has already sent `already` buckets, with the program in force in the cycle, and answers the number of the cycle's
+/// buckets. The fault has the number of buckets sent by the job.
 pub fn conduct_cycle<R: Wait, M: Mast>(
     means: &Means<'_, R>,
     already: u64,
@@ -116,7 +115,7 @@ pub fn conduct_cycle<R: Wait, M: Mast>(
     ensures slots { IfOk result (λ slots. slots ≤ MOST_SLOTS) }
     ensures aired { (air : Air) → IsAirOf pass.old.values means.now.form means.now.plans.now air →
         MatchResult result (λ slots. SendsCounted pass.old.values air 1 slots (batch_events publisher.old.batches) (batch_events publisher.new.batches) (M.state mast.old).told (M.state mast.new).told) (SendsInCycle M.state pass.old.values air already (batch_events publisher.old.batches) (batch_events publisher.new.batches) mast.old mast.new) }
-    ensures cause { MatchResult result (λ _. (M.state mast.new).faults ≡ (M.state mast.old).faults) (IsCause (M.state mast.old).faults (M.state mast.new).faults) }
+    ensures cause { MatchResult result (λ _. (M.state mast.new).faults ≡ (M.state mast.old).faults) (IsFailure (M.state mast.old).faults (M.state mast.new).faults) }
     ensures port { (M.state mast.new).port ≡ (M.state mast.old).port }
     ensures buffer { length buf.new ≡ length buf.old }
 {

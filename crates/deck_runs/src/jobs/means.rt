@@ -1,4 +1,4 @@
-//! What a conductor works with and leaves as it is.
+//! What a conductor works with but doesn't change.
 ghost use Rattle.std.specs.Prelude.{◌≡◌};
 
 use air_base::Form;

@@ -9,7 +9,7 @@ use air_devices::Gate;
 use air_model::reports::LookLine;
 use cycle_snapshot::{Monitor, Publisher};
 
-/// What the monitor keeps, as the line of a monitor of number 0.
+/// The frame that the monitor keeps, as the line of a monitor of number 0.
 fn line_of(monitor: &Monitor) -> LookLine
     ensures line { IsLookLineOf monitor.now result }
     ensures number { result.monitor ≡ 0 }
@@ -21,8 +21,8 @@ fn line_of(monitor: &Monitor) -> LookLine
     }
 }
 
-/// Looks so many times, and gives the last look, with the monitor's number 0. It ends at the first look that answers `NoMemory`.
-/// It waits for nobody. Each look stands between its two gate calls, of which no clause speaks.
+/// Looks `looks` times, and answers the last look, with the monitor's number 0. It ends at the first look that answers `NoMemory`. It waits for
+/// nobody. Each look is between its two gate calls; no clause speaks of these.
 pub fn monitor_job<G: Gate>(
     monitor: &mut Monitor,
     looks: u32,
@@ -41,7 +41,7 @@ pub fn monitor_job<G: Gate>(
     Ok(line_of(monitor))
 }
 
-/// Looks once more, after the monitor learned what is published: its look goes on from all of it. The line has the monitor's number 0.
+/// Looks once more, after the monitor learned what is published: what it then has seen begins with all of it. The line has the monitor's number 0.
 pub fn last_look(monitor: &mut Monitor, publisher: &Publisher) -> Result<LookLine, NoMemory>
     requires own { monitor.old.publisher ≡ publisher.now.id }
     ensures told { IsPrefix publisher.now.batches monitor.new.told × IsPrefix monitor.old.told monitor.new.told }

@@ -1,8 +1,8 @@
-//! Before the jobs run: the first values, an updater for each pass, and a watcher for each monitor.
+//! What is made before the jobs run: the first values, an updater for each pass, and a watcher for each monitor.
 ghost use Rattle.std.specs.Prelude.{◌≡◌, ℕ, length, slice_get, All, IfOk, Some};
 ghost use Rattle.air_model.specs.Decks.{values_in};
 ghost use Rattle.station.specs.PassStates.{PassState, new_pass};
-ghost use Rattle.deck_runs.specs.Crews.{HasNewPass, passes_of, monitors_of};
+ghost use Rattle.deck_runs.specs.Private.Crews.{HasNewPass, passes_of, monitors_of};
 
 use crate::jobs::crews::{MonitorRun, UpdaterRun};
 use air_base::NoMemory;

@@ -12,9 +12,9 @@ use station::{Station, UpdaterPass};
 use std::alloc::Global;
 use std::sync::Wait;
 
-/// Commits the updates in order. The pass made just these further commits, and after `NoMemory` the first of them. `Update::fits`
-/// tells whether an update fits, `UpdaterPass::made` how many commits the pass made. Each commit stands between its two gate calls,
-/// of which no clause speaks.
+/// Commits the updates in order. The pass made exactly these further commits, and after `NoMemory` the first of them. `Update::fits` is the test
+/// whether an update fits; `UpdaterPass::made` gives the number of commits that the pass made. Each commit is between its two gate calls; no clause
+/// speaks of these.
 pub fn updater_job<R: Wait, G: Gate>(
     wait: &R,
     alloc: Global,

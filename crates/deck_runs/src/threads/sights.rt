@@ -1,4 +1,4 @@
-//! What monitors saw: the glance of each, and its last look after all jobs.
+//! What monitors saw: the glance of each, and one more look of it after all jobs.
 
 ghost use Rattle.std.specs.Prelude.{◌≡◌, ◌<◌, ◌^◌, length, All, IfOk};
 ghost use Rattle.deck_runs.specs.declared.jobs.crews.MonitorRun.{MonitorRun as Watcher};

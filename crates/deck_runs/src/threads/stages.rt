@@ -7,7 +7,7 @@ ghost use Rattle.air_model.specs.Buckets.{entry_len};
 ghost use Rattle.bucket_codec.specs.declared.offsets.TheConstants.{HEAD_BYTES};
 ghost use Rattle.cycle_snapshot.specs.SnapshotStates.{MonitorState, new_monitor, new_publisher};
 ghost use Rattle.std.specs.Thread.{IsSync};
-ghost use Rattle.deck_runs.specs.Crews.{EachDone, EachWatched, HasNewPass, passes_of};
+ghost use Rattle.deck_runs.specs.Private.Crews.{EachDone, EachWatched, HasNewPass, passes_of};
 ghost use Rattle.deck_runs.specs.declared.jobs.crews.MonitorRun.{MonitorRun as Watcher};
 ghost use Rattle.deck_runs.specs.declared.jobs.crews.UpdaterRun.{UpdaterRun as Updater};
 ghost use Rattle.deck_runs.specs.declared.jobs.TheConstants.{LOOKS};
@@ -28,8 +28,8 @@ use std::alloc::Global;
 use std::sync::Wait;
 use std::thread::{Threads, join_mut};
 
-/// The planned deck that is run, its station, and those who work there. The passes of the updaters come back into `passes`, which has
-/// the room from the beginning.
+/// The planned deck that is run, its station, and those who work there. The passes of the updaters come back into `passes`, which has the room from
+/// the beginning.
 #[derive(Drop)]
 pub(crate) struct Stage<'a> {
     pub planned: &'a Planned,
@@ -115,9 +115,9 @@ pub(crate) fn open_publisher<R: Wait>(
 }
 
 impl Stage<'_> {
-    /// Runs the conductor beside all updaters and all monitors, on threads where there are some. Whatever the schedule, each updater
-    /// committed its updates in order, or the first of them; each monitor made its looks, or the first of them; and what was sent are
-    /// the buckets of the history that the conductor has seen. A job that ends before its time leaves the others to go on.
+    /// Runs the conductor, all updaters and all monitors at the same time, on threads if there are any. A job that ends early doesn't stop the
+    /// others. Regardless of the schedule, each updater committed its updates in order, or the first of them, and each monitor made its looks, or the
+    /// first of them. The buckets sent are those of the history that the conductor has seen.
     pub(crate) fn play<R: Threads + Wait + Sync, M: Mast + Send, G: Gate + Sync>(
         &mut self,
         rt: &R,
@@ -158,7 +158,7 @@ impl Stage<'_> {
         conducted
     }
 
-    /// Closes the station. The answer is `NoMemory` where an updater ended before its time.
+    /// Closes the station. The answer is `NoMemory` if an updater ended early.
     pub(crate) fn end(self) -> Result<History, NoMemory>
         requires { IsPlayed self }
         ensures begins { BeginsWhole self.entry.planned.now self.entry.conductor.pass.seen }
@@ -189,7 +189,7 @@ fn are_done(updaters: &[UpdaterRun]) -> bool
     updaters.iter().all(|run| run.done)
 }
 
-/// Puts the passes of the updaters into the empty vector, which has the room.
+/// Puts the passes of the updaters into the empty vector, which has room for them.
 fn hand_in(updaters: Vec<UpdaterRun>, passes: &mut Vec<UpdaterPass>)
     requires room { (passes.old.items ≡ []) × (length updaters.items ≤ vec_capacity passes.old) }
     ensures { passes.new.items ≡ passes_of updaters.items }

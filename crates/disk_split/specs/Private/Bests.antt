@@ -16,12 +16,12 @@ pub record IsBestBelow (sums chunks : List ℕ) (top cost : ℕ) (sizes : List �
   pub least : (other : List ℕ) → IsSplitRest sums chunks 0 other → minor_from chunks other < top → cost ≤ cost_from sums chunks other
   pub first : (other : List ℕ) → IsSplitRest sums chunks 0 other → minor_from chunks other < top → cost_from sums chunks other ≡ cost → is_before other sizes ≡ false
 
--- What was found is the best, and nothing was found where there are no such sizes.
+-- What was found is the best, and nothing was found if there are no such sizes.
 abbrev pub IsFound : List ℕ → List ℕ → ℕ → Option BestSizes → Type 0
 IsFound sums chunks top None = (other : List ℕ) → IsSplitRest sums chunks 0 other → minor_from chunks other < top → ⊥
 IsFound sums chunks top (Some found) = IsBestBelow sums chunks top found.cost found.sizes
 
--- Of two, that one is better which costs less or, at the same cost, comes first.
+-- Of two, the better one costs less or, at the same cost, comes first.
 abbrev pub is_better : BestSizes → BestSizes → Bool
 is_better new old = nat_lt new.cost old.cost || ((new.cost == old.cost) && is_before new.sizes old.sizes)
 

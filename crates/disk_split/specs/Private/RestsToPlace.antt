@@ -13,7 +13,7 @@ pub record IsAfter (sums : List ℕ) (chunks : ℕ) (next : List (List (Option �
   pub cell : slice_index_or (slice_index_or next (left.from + size) []) (left.slots - chunk_slots chunks size) None ≡ Some rest.weight
   pub total : rest.weight + chunks * rates_from sums left.from size ≡ left.weight
 
--- No smaller size is such.
+-- This is the smallest size with which the disks after it make up the weight that is left.
 pub record IsFirstSize (sums : List ℕ) (chunks : ℕ) (next : List (List (Option ℕ))) (left : RestToPlace) (size : ℕ) (rest : RestToPlace) : Type 0 where
   pub filled : 1 ≤ size
   pub within : left.from + size < length sums

@@ -3,24 +3,24 @@
 use Rattle.std.specs.Prelude.{◌≡◌, ◌≤◌, ◌<◌, ℕ, ◌+◌, ◌-◌, ◌^◌, Option, Some, None, List, [], drop, length, min, nat_lt, slice_index, slice_index_or, if◌then◌else◌}
 use Rattle.disk_split.specs.Rests.{IsSplitRest, IsRestOf, minor_from, weight_from}
 
--- The cell is the least weight of all sizes with this number of slots, or none where no sizes have it.
+-- The cell is the least weight of all sizes with this number of slots, or `None` if no sizes have it.
 pub record IsCell (sums chunks : List ℕ) (from len : ℕ) (cell : Option ℕ) : Type 0 where
   pub reached : (weight : ℕ) → cell ≡ Some weight → (sizes : List ℕ) × IsRestOf sums chunks from len weight sizes
   pub least : (sizes : List ℕ) → IsSplitRest sums chunks from sizes → minor_from chunks sizes ≡ len
       → (weight : ℕ) × (cell ≡ Some weight) × (weight ≤ weight_from sums chunks from sizes)
 
--- The same of the sizes whose first is below a number.
+-- The same for the sizes whose first is below a number.
 pub record IsCellBelow (sums chunks : List ℕ) (from len top : ℕ) (cell : Option ℕ) : Type 0 where
   pub reached : (weight : ℕ) → cell ≡ Some weight → (sizes : List ℕ) × (slice_index sizes 0 < top) × IsRestOf sums chunks from len weight sizes
   pub least : (sizes : List ℕ) → slice_index sizes 0 < top → IsSplitRest sums chunks from sizes → minor_from chunks sizes ≡ len
       → (weight : ℕ) × (cell ≡ Some weight) × (weight ≤ weight_from sums chunks from sizes)
 
--- A row has the cells of all numbers of slots below a width. It may end before, where none follows.
+-- A row has the cells of all numbers of slots below a width. It may end earlier, if none follows.
 pub record IsTableRow (sums chunks : List ℕ) (from width : ℕ) (row : List (Option ℕ)) : Type 0 where
   pub narrow : length row ≤ width
   pub cells : (len : ℕ) → len < width → IsCell sums chunks from len (slice_index_or row len None)
 
--- A table has the rows of all places, also of that behind the last item.
+-- A table has a row for each place, also for the one after the last item.
 pub record IsTable (sums chunks : List ℕ) (width : ℕ) (rows : List (List (Option ℕ))) : Type 0 where
   pub long : length rows ≡ length sums
   pub each : (from : ℕ) → from < length sums → IsTableRow sums chunks from width (slice_index_or rows from [])
@@ -36,18 +36,18 @@ pub record HasCells (sums chunks : List ℕ) (slots : ℕ) (rows : List (List (O
   pub below : slots < width
   pub table : IsTable sums chunks width rows
 
--- So have all the tables.
+-- All the tables have the cells of this number of slots.
 pub record HaveCells (sums chunks : List ℕ) (slots : ℕ) (tables : List (List (List (Option ℕ)))) : Type 0 where
   pub width : ℕ
   pub below : slots < width
   pub all : AreTables sums chunks width tables
 
--- The less of a cell and a weight.
+-- The lesser of a cell and a weight.
 abbrev pub lesser_weight : Option ℕ → ℕ → Option ℕ
 lesser_weight None weight = Some weight
 lesser_weight (Some old) weight = Some (min old weight)
 
--- The less of a cell and what another one weighs with so much more.
+-- The lesser of a cell and the sum of another one and a weight.
 abbrev pub lesser_weight_with : Option ℕ → Option ℕ → ℕ → Option ℕ
 lesser_weight_with old None more = old
 lesser_weight_with old (Some rest) more = lesser_weight old (rest + more)

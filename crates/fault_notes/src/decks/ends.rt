@@ -1,10 +1,10 @@
-//! Decks that have a fault at their end alone.
+//! Decks that have a fault only at their end.
 
 use crate::records::before::RecordsBefore;
 use crate::words::sentences::Sentence;
 use air_base::limits::{MOST_FULL_ITEMS, MOST_ITEMS};
 
-/// The sizes of the first replan whose sizes don't add up to the number of items; none where each does.
+/// A note on the first replan whose sizes don't add up to the number of items, or `None`.
 fn replan_note(before: &RecordsBefore) -> Option<Sentence<'static>> {
     for (place, sizes) in before.replan_sizes.iter().enumerate() {
         let edition = place as u64 + 1;
@@ -17,7 +17,7 @@ fn replan_note(before: &RecordsBefore) -> Option<Sentence<'static>> {
     None
 }
 
-/// What is wrong at the end of a deck that declares all this.
+/// A note on the end of a deck that declares all this.
 pub fn end_note(before: &RecordsBefore) -> Sentence<'static> {
     if before.sizes != before.items {
         let wording =

@@ -11,7 +11,7 @@ use air_base::limits::{
     MOST_UPDATERS, MOST_UPDATES,
 };
 
-/// A total that is above its limit; none where it isn't.
+/// A note that a total is above its limit, or `None`.
 fn total(count: u64, name: &'static str, most: u64) -> Option<Sentence<'static>> {
     if count <= most {
         return None;
@@ -20,14 +20,14 @@ fn total(count: u64, name: &'static str, most: u64) -> Option<Sentence<'static>>
     Some(Sentence::words(wording, "", name, "").with(count, most, ""))
 }
 
-/// The first updater of a script record whose number is too great; none where there is none.
+/// A note on the first updater of a script record whose number is too great, or `None`.
 fn passing_updater(events: &str) -> Option<Sentence<'static>> {
     let (_, by) = first_failing(events, Test::Item(MOST_UPDATERS as u64))?;
     let wording = "has updater #first#: at most #second#";
     Some(Sentence::numbers(wording, by, MOST_UPDATERS as u64 - 1, 0))
 }
 
-/// A script's record passes a limit; none where it doesn't.
+/// A note that a script record passes a limit, or `None`.
 fn script_note(before: &RecordsBefore, record: &Record) -> Option<Sentence<'static>> {
     let mut all = *before;
     all.add_events(record.field(1));
@@ -36,7 +36,7 @@ fn script_note(before: &RecordsBefore, record: &Record) -> Option<Sentence<'stat
         .or(total(all.starts, "starts", MOST_STARTS as u64))
 }
 
-/// With a record a total passes a limit, or a script's updater does; none where none does.
+/// A note that with this record a total passes a limit, or that its script has an updater with too great a number, or `None`.
 pub fn total_note(
     before: &RecordsBefore,
     record: &Record,
@@ -58,7 +58,7 @@ pub fn total_note(
     total(before.saturating_add(1), name, most)
 }
 
-/// An updater commits more updates than stand before the record.
+/// A note that an updater commits more updates than are declared before the record, or `None`.
 pub fn overdrawn_note(before: &RecordsBefore, record: &Record) -> Option<Sentence<'static>> {
     let mut all = *before;
     all.add_events(record.field(1));

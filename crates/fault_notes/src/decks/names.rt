@@ -6,14 +6,14 @@ use crate::records::lists::{Test, first_failing};
 use crate::records::tags::RecordTag;
 use crate::words::sentences::Sentence;
 
-/// An item's id isn't the number of items before it.
+/// A note that an item's id isn't the number of items before it.
 pub fn id_note<'a>(before: &RecordsBefore, record: &'a Record) -> Sentence<'a> {
     let wording =
         "the item has the id #text#, and #first# is the next: ids run from 0 without a gap";
     Sentence::words(wording, record.field(1), "", "").with(before.items, 0, "")
 }
 
-/// The first part of a list that fails by an item that isn't declared; none where each keeps this.
+/// A note on the first part of a list that names an item which isn't declared, or `None`.
 fn first_undeclared<'a>(
     list: &str,
     test: Test<'_>,
@@ -26,7 +26,7 @@ fn first_undeclared<'a>(
     Some(sentence.only(items, "item", "items"))
 }
 
-/// An item or a reader isn't declared before the record.
+/// A note that an item or a reader isn't declared before the record, or `None`.
 pub fn undeclared_note(
     before: &RecordsBefore,
     record: &Record,
@@ -47,7 +47,7 @@ pub fn undeclared_note(
     Some(Sentence::numbers(wording, reader, 0, 0).only(before.readers, "reader", "readers"))
 }
 
-/// An item stands twice in a list.
+/// A note that an item is in a list twice, or `None`.
 pub fn twice_note(record: &Record, tag: RecordTag) -> Option<Sentence<'static>> {
     let reads = record.field(2);
     let writes = record.field(3);
@@ -71,7 +71,7 @@ pub fn twice_note(record: &Record, tag: RecordTag) -> Option<Sentence<'static>> 
     Some(Sentence::numbers(wording, item, 0, 0))
 }
 
-/// A base isn't among the reads.
+/// A note that a base isn't among the reads, or `None`.
 pub fn unread_note(record: &Record) -> Option<Sentence<'_>> {
     let (text, base) = first_failing(record.field(3), Test::Read(record.field(2)))?;
     let wording =

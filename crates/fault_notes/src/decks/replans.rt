@@ -5,7 +5,7 @@ use crate::records::before::RecordsBefore;
 use crate::records::lists::parts_in;
 use crate::words::sentences::Sentence;
 
-/// A replan's cycle isn't above that of the replan before; none where it is.
+/// A note that a replan's cycle isn't above that of the replan before, or `None`.
 pub fn early_note(before: &RecordsBefore, record: &Record) -> Option<Sentence<'static>> {
     let cycle = record.number(1);
     if before.last_cycle < cycle {
@@ -16,7 +16,7 @@ pub fn early_note(before: &RecordsBefore, record: &Record) -> Option<Sentence<'s
     Some(Sentence::numbers(wording, cycle, before.last_cycle, 0))
 }
 
-/// The sizes and the frequencies of a replan aren't as many.
+/// A note that a replan has another number of sizes than of frequencies.
 pub fn lengths_note(record: &Record) -> Sentence<'static> {
     let sizes = parts_in(record.field(2));
     let freqs = parts_in(record.field(3));

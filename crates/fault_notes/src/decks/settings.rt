@@ -37,7 +37,7 @@ pub fn setting_place(name: &str) -> Option<usize>
     None
 }
 
-/// The value of the policy is none of its letters; none where it is one.
+/// A note that the value of the policy is none of its letters, or `None`.
 fn policy_note(text: &str) -> Option<Sentence<'_>> {
     if text == "F" || text == "D" || text == "R" {
         return None;
@@ -46,7 +46,7 @@ fn policy_note(text: &str) -> Option<Sentence<'_>> {
     Some(Sentence::words(wording, text, "", space_of(text)))
 }
 
-/// A setting's value is no number within its limits; none where it is one.
+/// A note that a setting's value is no number within its limits, or `None`.
 fn value_note<'a>(
     name: &'static str,
     least: u64,
@@ -62,7 +62,7 @@ fn value_note<'a>(
     Some(Sentence::words(wording, text, name, why).with(0, most, tail))
 }
 
-/// A setting is unknown, was set before, or can't have its value.
+/// A note that a setting is unknown, was set before, or can't have its value, or `None`.
 pub fn setting_note<'a>(before: &RecordsBefore, record: &'a Record) -> Option<Sentence<'a>> {
     let text = record.field(1);
     let Some(place) = setting_place(text) else {

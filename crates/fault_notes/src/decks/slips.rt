@@ -60,7 +60,7 @@ fn is_wordy(record: &Record) -> bool {
     1 < record.len()
 }
 
-/// A note on why the tag of the record at a row is unknown, or `None` if no reason is found.
+/// A note on why the tag of the record at a row number is unknown, or `None` if no reason is found.
 fn tag_slip(record: &Record, row: u32) -> Option<Sentence<'_>> {
     let tag = record.field(0);
     if begins_comment(tag) {
@@ -102,7 +102,7 @@ fn quote_note(record: &Record, open_quote: Option<u64>) -> Option<Sentence<'_>> 
     line_feed_note(record)
 }
 
-/// Whether the record at a row looks like the header line of a table of items.
+/// Whether the record at a row number looks like the header line of a table of items.
 fn is_item_header(record: &Record, row: u32) -> bool {
     let tag = record.field(0);
     row == 1 && tag == "item" && is_wordy(record)
@@ -123,7 +123,7 @@ fn record_slip(record: &Record, row: u32, kind: u8) -> Option<Sentence<'_>> {
     None
 }
 
-/// A note on a common mistake in a text with a fault of this kind at this row, or `None`. `open_quote` is the line of an opening quote of the
+/// A note on a common mistake in a text with a fault of this kind at this row number, or `None`. `open_quote` is the line of an opening quote of the
 /// record that never closes.
 pub fn slip_note<'a>(
     found: &'a FoundRecord,

@@ -4,10 +4,10 @@ use air_base::NoMemory;
 use std::alloc::Global;
 use strsim::osa_distance;
 
-/// What stands before the words of a form.
+/// What comes before the words of a form.
 const PROGRAM: &str = "airdisk ";
 
-/// What stands between a form and what it does.
+/// What separates a form from what it does.
 const GAP: &str = "  ";
 
 /// A command with this edit distance or more from a name isn't suggested.
@@ -62,7 +62,7 @@ impl Usage {
         }
     }
 
-    /// The words after the command; empty for an option, which stands alone.
+    /// The words after the command; empty for an option, which has none.
     pub fn places(self) -> &'static str {
         match self.form.split_once(' ') {
             Some((_, places)) if !self.form.starts_with('-') => places,

@@ -7,7 +7,7 @@ use air_base::limits::{MOST_REPLANS, MOST_UPDATERS};
 use air_base::read_u64;
 use csv::ByteRecord;
 
-/// How many of each there are, and the sums that limits speak of; of a report also the rows at which its sections begin.
+/// The number of each kind of record, and the sums that limits are about; of a report also the row numbers at which its sections begin.
 #[derive(Clone, Copy)]
 pub struct RecordsBefore {
     pub items: u64,
@@ -51,13 +51,13 @@ fn text_in(record: &ByteRecord, place: usize) -> &str {
     }
 }
 
-/// The number in a field; 0 where there is none.
+/// The number in a field; 0 if there is none.
 fn number_in(record: &ByteRecord, place: usize) -> u64 {
     read_u64(text_in(record, place).as_bytes()).unwrap_or(0)
 }
 
 impl RecordsBefore {
-    /// What no record says.
+    /// The counts before any record.
     pub fn new() -> RecordsBefore {
         RecordsBefore {
             items: 0,
@@ -150,7 +150,7 @@ impl RecordsBefore {
         }
     }
 
-    /// Takes the record of a row.
+    /// Takes the record of a row number.
     pub fn add(&mut self, record: &ByteRecord, row: u32) {
         let tag = text_in(record, 0);
         if let Some(known) = deck_form(tag) {

@@ -75,7 +75,7 @@ const REPORT: [Field; 17] = [
     ("<total>", "total", Sort::Number, 0, u64::MAX),
 ];
 
-/// The field that a form writes so.
+/// The field that a form writes like this.
 fn field_in(fields: &[Field], written: &str) -> Option<Field> {
     for field in fields {
         if field.0 == written {
@@ -85,7 +85,7 @@ fn field_in(fields: &[Field], written: &str) -> Option<Field> {
     None
 }
 
-/// Whether a text spells a number up to this one.
+/// Whether a text spells a number up to `most`.
 fn is_number(text: &[u8], most: u64) -> bool {
     match read_u64(text) {
         Some(number) => number <= most,
@@ -93,7 +93,7 @@ fn is_number(text: &[u8], most: u64) -> bool {
     }
 }
 
-/// Why a text is no item at a cycle, where that is told of one without `@`; none where it is one.
+/// Why a text is no item at a cycle, or `None` if it is one. `told` is why, if it has no `@`.
 fn why_no_place(text: &[u8], told: &'static str) -> Option<&'static str> {
     let Some((item, cycle)) = parted_at(text, b'@') else {
         return Some(told);
@@ -107,7 +107,7 @@ fn why_no_place(text: &[u8], told: &'static str) -> Option<&'static str> {
     None
 }
 
-/// Why a text is no read; none where it is one.
+/// Why a text is no read, or `None` if it is one.
 fn why_no_read(text: &[u8]) -> Option<&'static str> {
     let told = "it isn't item@cycle=value";
     let Some((place, value)) = parted_at(text, b'=') else {
@@ -148,7 +148,7 @@ impl Sort {
         )
     }
 
-    /// Why a field or a part of a list isn't of this form; none where it is.
+    /// Why a field or a part of a list isn't of this form, or `None` if it is.
     fn why_not(self, text: &str) -> Option<&'static str> {
         let bytes = text.as_bytes();
         match self {
@@ -167,7 +167,7 @@ impl Sort {
     }
 }
 
-/// The marks of writes with a space beside them.
+/// The marks of writes with a space before or after them.
 const SPACED_MARKS: [&str; 6] = [" =", "= ", " +", "+ ", " -", "- "];
 
 /// Whether a write of the list has a space within it.
@@ -180,12 +180,12 @@ fn has_inner_space(list: &str) -> bool {
     false
 }
 
-/// The first part of a list that isn't of its form; none where each is.
-fn list_note<'a>(name: &'static str, form: Sort, list: &'a str) -> Option<Sentence<'a>> {
+/// A note on the first part of a list that isn't of its form, or `None`.
+fn list_note<'a>(name: &'static str, sort: Sort, list: &'a str) -> Option<Sentence<'a>> {
     if list.is_empty() {
         return None;
     }
-    if matches!(form, Sort::Writes) && has_inner_space(list) {
+    if matches!(sort, Sort::Writes) && has_inner_space(list) {
         let wording = "has #text# among its #name#: no space stands within a write";
         return Some(Sentence::words(wording, list, name, ""));
     }
@@ -195,21 +195,21 @@ fn list_note<'a>(name: &'static str, form: Sort, list: &'a str) -> Option<Senten
                 "has an empty part among its #name#: one space stands between two parts, and none at the ends";
             return Some(Sentence::words(wording, text, name, ""));
         }
-        if let Some(why) = form.why_not(text) {
+        if let Some(why) = sort.why_not(text) {
             return Some(Sentence::words("has #text# among its #name#: #why#", text, name, why));
         }
     }
     None
 }
 
-/// A field isn't of its form; none where it is.
+/// A note that a field isn't of its form, or `None`.
 fn field_note<'a>(field: Field, text: &'a str) -> Option<Sentence<'a>> {
-    let (_, name, form, _, _) = field;
-    if form.is_list() {
-        return list_note(name, form, text);
+    let (_, name, sort, _, _) = field;
+    if sort.is_list() {
+        return list_note(name, sort, text);
     }
-    let why = form.why_not(text)?;
-    let wording = if matches!(form, Sort::Frequency) {
+    let why = sort.why_not(text)?;
+    let wording = if matches!(sort, Sort::Frequency) {
         "has the #name# #text#: no single -, and #why#"
     } else {
         "has the #name# #text#: #why#"
@@ -217,9 +217,9 @@ fn field_note<'a>(field: Field, text: &'a str) -> Option<Sentence<'a>> {
     Some(Sentence::words(wording, text, name, why))
 }
 
-/// A size or a frequency of a list passes its limit; none where none does, and in another list.
-fn part_note<'a>(name: &'static str, form: Sort, list: &str) -> Option<Sentence<'a>> {
-    let most = match form {
+/// A note that a size or a frequency of a list passes its limit, or `None`, as for any other list.
+fn part_note<'a>(name: &'static str, sort: Sort, list: &str) -> Option<Sentence<'a>> {
+    let most = match sort {
         Sort::Sizes => MOST_SIZE,
         Sort::Frequencies => MOST_FREQ,
         _ => return None,
@@ -229,21 +229,21 @@ fn part_note<'a>(name: &'static str, form: Sort, list: &str) -> Option<Sentence<
     Some(Sentence::words(wording, "", name, "").with(number, most, range(1)))
 }
 
-/// A field passes a limit; none where it doesn't.
+/// A note that a field passes a limit, or `None`.
 fn limit_note<'a>(field: Field, text: &'a str) -> Option<Sentence<'a>> {
-    let (_, name, form, least, most) = field;
-    let (wording, number) = if form.is_list() {
+    let (_, name, sort, least, most) = field;
+    let (wording, number) = if sort.is_list() {
         ("has #first# #name#: ", parts_in(text))
     } else {
         ("has the #name# #first#: ", read_u64(text.as_bytes())?)
     };
     if least <= number && number <= most {
-        return part_note(name, form, text);
+        return part_note(name, sort, text);
     }
     Some(Sentence::words(wording, "", name, "").with(number, most, range(least)))
 }
 
-/// The first field of a record that isn't of its form, or that passes a limit; none where there is none.
+/// A note on the first field of a record that isn't of its form, or that passes a limit, or `None`.
 fn first_note<'a>(
     record: &'a Record,
     form: &str,
@@ -269,7 +269,7 @@ fn first_note<'a>(
     None
 }
 
-/// The first field of a record that isn't of its form or, where each is, the first that passes a limit; none where there is none.
+/// A note on the first field of a record that isn't of its form, or else on the first that passes a limit, or `None`.
 fn faulty_field_note<'a>(record: &'a Record, form: &str, fields: &[Field]) -> Option<Sentence<'a>> {
     match first_note(record, form, fields, false) {
         Some(sentence) => Some(sentence),
@@ -277,12 +277,12 @@ fn faulty_field_note<'a>(record: &'a Record, form: &str, fields: &[Field]) -> Op
     }
 }
 
-/// A field of a deck's record isn't of its form, or passes a limit.
+/// A note that a field of a deck's record isn't of its form, or passes a limit, or `None`.
 pub fn deck_field_note<'a>(record: &'a Record, form: &str) -> Option<Sentence<'a>> {
     faulty_field_note(record, form, &DECK)
 }
 
-/// A field of a report's record isn't of its form, or is above its range.
+/// A note that a field of a report's record isn't of its form, or is above its range, or `None`.
 pub fn report_field_note<'a>(record: &'a Record, form: &str) -> Option<Sentence<'a>> {
     faulty_field_note(record, form, &REPORT)
 }

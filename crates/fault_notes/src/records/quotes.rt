@@ -71,7 +71,7 @@ fn open_quote(bytes: &[u8]) -> Option<u64> {
     }
 }
 
-/// The line of an opening quote that never closes, if it is in the record at this row.
+/// The line of an opening quote that never closes, if it is in the record of this row number.
 pub fn open_quote_line(alloc: Global, bytes: &[u8], row: u32) -> Result<Option<u64>, NoMemory> {
     let text = without_mark(bytes);
     let Some(opened) = open_quote(text) else {

@@ -32,7 +32,7 @@ fn why_more(record: &Record, known: TaggedForm) -> &'static str {
     }
 }
 
-/// The record has another number of fields than its form.
+/// A note that the record has another number of fields than its form.
 pub fn count_note<'a>(record: &Record, known: TaggedForm) -> Sentence<'a> {
     let count = record.len() as u64;
     let wanted = known.form.split(',').count() as u64;
@@ -49,7 +49,7 @@ pub fn count_note<'a>(record: &Record, known: TaggedForm) -> Sentence<'a> {
     Sentence::words(wording, "", "", known.form).with(count, wanted, tail)
 }
 
-/// The tag of the record is none of these.
+/// A note that the record's tag is none of those that are known.
 pub fn tag_note<'a>(record: &'a Record, name: &'static str) -> Sentence<'a> {
     let text = record.field(0);
     let wording = if has_outer_space(text) {

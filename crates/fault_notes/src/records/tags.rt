@@ -32,11 +32,11 @@ pub struct TaggedForm {
     pub form: &'static str,
 }
 
-/// A row of a table of records.
-type Row = (RecordTag, &'static str, &'static str);
+/// A record that is known by its tag.
+type KnownRecord = (RecordTag, &'static str, &'static str);
 
 /// The records of a deck.
-const DECK: [Row; 8] = [
+const DECK: [KnownRecord; 8] = [
     (RecordTag::Item, "item", "item,<id>,<value>,<rate>"),
     (RecordTag::Disk, "disk", "disk,<size>,<freq>"),
     (
@@ -52,7 +52,7 @@ const DECK: [Row; 8] = [
 ];
 
 /// The records of a report.
-const REPORT: [Row; 9] = [
+const REPORT: [KnownRecord; 9] = [
     (RecordTag::Start, "start", "start"),
     (RecordTag::Commit, "commit", "commit,<by>,<seq>"),
     (
@@ -88,8 +88,8 @@ const REPORT: [Row; 9] = [
     (RecordTag::Look, "look", "look,<monitor>,<cycle>,<total>"),
 ];
 
-/// The record of this name in a table.
-fn form_in(rows: &[Row], wanted: &str) -> Option<TaggedForm> {
+/// The record with this name in a table.
+fn form_in(rows: &[KnownRecord], wanted: &str) -> Option<TaggedForm> {
     for (tag, name, form) in rows {
         if *name == wanted {
             return Some(TaggedForm {
@@ -102,12 +102,12 @@ fn form_in(rows: &[Row], wanted: &str) -> Option<TaggedForm> {
     None
 }
 
-/// The record of a deck that has this name.
+/// The record of a deck with this name.
 pub fn deck_form(name: &str) -> Option<TaggedForm> {
     form_in(&DECK, name)
 }
 
-/// The name of the record of a deck that is this one but for capitals.
+/// The name of the record of a deck that differs from this one only in capitals.
 pub fn known_tag(wanted: &str) -> Option<&'static str> {
     for (_, name, _) in &DECK {
         if name.eq_ignore_ascii_case(wanted) {
@@ -117,7 +117,7 @@ pub fn known_tag(wanted: &str) -> Option<&'static str> {
     None
 }
 
-/// The record of a report that has this name.
+/// The record of a report with this name.
 pub fn report_form(name: &str) -> Option<TaggedForm> {
     form_in(&REPORT, name)
 }

@@ -1,4 +1,4 @@
-//! Lines of a report that name what the deck hasn't: updates, readers, queries, attempts, items and monitors.
+//! Lines of a report that name what the deck doesn't have: updates, readers, queries, attempts, items and monitors.
 
 use crate::records::Record;
 use crate::records::before::RecordsBefore;
@@ -8,7 +8,7 @@ use crate::words::sentences::Sentence;
 use air_base::limits::MOST_UPDATERS;
 use item_catalog::Deck;
 
-/// How many updates of an updater the deck has.
+/// The number of updates of an updater in the deck.
 fn updates_of(deck: &Deck, by: u64) -> u64 {
     if by < deck.updaters() as u64 {
         deck.updates(by as u32).len() as u64
@@ -17,7 +17,7 @@ fn updates_of(deck: &Deck, by: u64) -> u64 {
     }
 }
 
-/// How many updates of an updater the records above commit.
+/// The number of updates of an updater that the records above commit.
 fn committed_by(before: &RecordsBefore, by: u64) -> u64 {
     if by < MOST_UPDATERS as u64 {
         before.commits_by[by as usize]
@@ -26,7 +26,7 @@ fn committed_by(before: &RecordsBefore, by: u64) -> u64 {
     }
 }
 
-/// A commit isn't its updater's next in the deck.
+/// A note that a commit isn't its updater's next in the deck.
 pub fn commit_note(deck: &Deck, before: &RecordsBefore, record: &Record) -> Sentence<'static> {
     let by = record.number(1);
     let there = updates_of(deck, by);
@@ -45,7 +45,7 @@ pub fn commit_note(deck: &Deck, before: &RecordsBefore, record: &Record) -> Sent
     Sentence::numbers(wording, seq, 0, by).only(there, "update", "updates")
 }
 
-/// A number that is no reader or monitor of the deck, which has so many; none where it is one.
+/// A note that a number is no reader or monitor of the deck, which has this many, or `None`.
 fn stranger(
     number: u64,
     count: u64,
@@ -59,7 +59,7 @@ fn stranger(
     Some(Sentence::numbers(wording, number, 0, 0).only(count, one, several))
 }
 
-/// The first read that isn't of the query's item in its place; none where each is.
+/// A note on the first read that isn't of the query's item in its place, or `None`.
 fn read_note(query: &[u16], reads: &str) -> Option<Sentence<'static>> {
     let mut rest = query;
     for part in reads.split(' ') {
@@ -79,7 +79,7 @@ fn read_note(query: &[u16], reads: &str) -> Option<Sentence<'static>> {
     None
 }
 
-/// The refused read isn't of the item that the query has next; none where it is.
+/// A note that the refused read isn't of the item that the query has next, or `None`.
 fn refused_note(next: u64, record: &Record) -> Option<Sentence<'static>> {
     let first = item_of(record.field(5))?;
     if first == next {
@@ -89,7 +89,7 @@ fn refused_note(next: u64, record: &Record) -> Option<Sentence<'static>> {
     Some(Sentence::numbers(wording, first, next, 0))
 }
 
-/// The clash of an abort is no item of its reads; none where it is one.
+/// A note that the clash of an abort is no item of its reads, or `None`.
 fn clash_note(record: &Record) -> Option<Sentence<'static>> {
     let first = record.number(6);
     if 0 < times_in(record.field(4), first) {
@@ -99,7 +99,7 @@ fn clash_note(record: &Record) -> Option<Sentence<'static>> {
     Some(Sentence::numbers(wording, first, 0, 0))
 }
 
-/// The reads of an attempt don't follow its query; none where they do.
+/// A note that the reads of an attempt don't follow its query, or `None`.
 fn items_note(query: &[u16], record: &Record, tag: RecordTag) -> Option<Sentence<'static>> {
     if let Some(sentence) = read_note(query, record.field(4)) {
         return Some(sentence);
@@ -120,7 +120,7 @@ fn items_note(query: &[u16], record: &Record, tag: RecordTag) -> Option<Sentence
     Some(Sentence::numbers(wording, count, query.len() as u64, 0))
 }
 
-/// A verdict isn't on an attempt of the deck: by its reader, its attempt, its query or its items; none where it is.
+/// A note that a verdict isn't on an attempt of the deck, by its reader, its attempt, its query or its items, or `None`.
 fn attempt_note(deck: &Deck, record: &Record, tag: RecordTag) -> Option<Sentence<'static>> {
     let last = record.number(1);
     let readers = deck.readers() as u64;
@@ -143,7 +143,7 @@ fn attempt_note(deck: &Deck, record: &Record, tag: RecordTag) -> Option<Sentence
     Some(Sentence::numbers(wording, first, 0, last).only(count, "query", "queries"))
 }
 
-/// What a line names isn't the deck's; none where it is.
+/// A note that what a line names isn't the deck's, or `None`.
 pub fn stranger_note(deck: &Deck, record: &Record, tag: RecordTag) -> Option<Sentence<'static>> {
     let number = record.number(1);
     match tag {

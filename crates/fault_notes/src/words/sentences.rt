@@ -1,12 +1,11 @@
-//! What a note says of a record: a sentence with places for what stands there.
+//! What a note says of a record: a sentence with places for values.
 //!
-//! No memory is taken here: what is said points into the record, and the line of the note is written once, in the end.
+//! No memory is taken here: a sentence points into the record, and the line of the note is written once, in the end.
 
 use crate::words::texts::ShownText;
 use std::fmt;
 
-/// A sentence in two parts, with the name of one of its values between two `#` in the place of that value. A value is told by its
-/// name's first letter.
+/// A sentence in two parts. Where a value goes, the wording has the value's name between two `#`. The first letter of the name identifies the value.
 #[derive(Clone, Copy)]
 pub struct Sentence<'a> {
     wording: &'static str,
@@ -28,7 +27,7 @@ pub fn range(least: u64) -> &'static str {
     }
 }
 
-/// So many things with numbers from 0: `why` is the name of one of them, `name` that of several, and `second` the last one's number.
+/// What there is of `count` things numbered from 0: `why` is the name of one of them, `name` that of several, and `second` the last one's number.
 fn range_wording(count: u64) -> &'static str {
     match count {
         0 => "no #why#",
@@ -39,7 +38,7 @@ fn range_wording(count: u64) -> &'static str {
 }
 
 impl<'a> Sentence<'a> {
-    /// A sentence with a text, the name of what that is, and why it is wrong.
+    /// A sentence with a text, the name of what the text is, and why it is wrong.
     pub fn words(
         wording: &'static str,
         text: &'a str,
@@ -80,7 +79,7 @@ impl<'a> Sentence<'a> {
         self
     }
 
-    /// The same, with so many things that have numbers from 0.
+    /// The same with a second part that says which numbers from 0 there are for `count` things.
     pub fn only(mut self, count: u64, one: &'static str, several: &'static str) -> Sentence<'a> {
         self.tail = range_wording(count);
         self.why = one;
@@ -110,11 +109,11 @@ impl Sentence<'_> {
     /// Writes a part of the sentence.
     fn write_part<W: fmt::Write>(&self, f: &mut fmt::Formatter<W>, part: &str) -> fmt::Result {
         let mut is_value = false;
-        for piece in part.split('#') {
+        for text in part.split('#') {
             if is_value {
-                self.write_value(f, piece)?;
+                self.write_value(f, text)?;
             } else {
-                f.write_str(piece)?;
+                f.write_str(text)?;
             }
             is_value = !is_value;
         }

@@ -46,7 +46,7 @@ pub fn has_outer_space(text: &str) -> bool {
     text.trim().len() != text.len()
 }
 
-/// That a text has a space at one of its ends; nothing where it has none.
+/// That a text has a space at one of its ends; empty if it has none.
 pub fn space_of(text: &str) -> &'static str {
     if has_outer_space(text) {
         "it has a space, and "
@@ -55,7 +55,7 @@ pub fn space_of(text: &str) -> &'static str {
     }
 }
 
-/// What stands before the first byte of this value, and what stands behind it; none where there is no such byte.
+/// What comes before the first byte of this value, and what follows it, or `None` if there is no such byte.
 pub fn parted_at(bytes: &[u8], mark: u8) -> Option<(&[u8], &[u8])> {
     for place in 0..bytes.len() {
         if bytes[place] == mark {
@@ -65,7 +65,7 @@ pub fn parted_at(bytes: &[u8], mark: u8) -> Option<(&[u8], &[u8])> {
     None
 }
 
-/// What stands before the first byte of this value; all where there is no such byte.
+/// What comes before the first byte of this value; all if there is no such byte.
 pub fn text_before(bytes: &[u8], mark: u8) -> &[u8] {
     match parted_at(bytes, mark) {
         Some((leading, _)) => leading,
@@ -73,7 +73,7 @@ pub fn text_before(bytes: &[u8], mark: u8) -> &[u8] {
     }
 }
 
-/// What stands on both sides of the first `+`, or, where there is none, of the first `-`; none where there is no sign.
+/// What is on both sides of the first `+` or, if there is none, of the first `-`, or `None` if there is no sign.
 pub fn parted_at_sign(bytes: &[u8]) -> Option<(&[u8], &[u8])> {
     match parted_at(bytes, b'+') {
         Some(sides) => Some(sides),
@@ -114,7 +114,7 @@ fn why_marked(bytes: &[u8]) -> Option<&'static str> {
     None
 }
 
-/// Why digits alone spell no number.
+/// Why a text that has only digits spells no number.
 fn why_no_digits(first: u8) -> &'static str {
     if first == b'0' {
         "not a number: it has a leading zero"

@@ -1,4 +1,4 @@
--- For private steps alone. What contracts see of a deck while it is read, and what its fields keep.
+-- For private steps only. What contracts see of a deck while it is read, and what always holds of its fields.
 use Rattle.std.specs.Prelude.{◌≡◌, ◌≤◌, length, All}
 use Rattle.air_base.specs.declared.limits.TheConstants.{MOST_DISKS, MOST_ITEMS, MOST_QUERIES, MOST_READERS, MOST_REPLANS, MOST_UPDATERS, MOST_UPDATES}
 use Rattle.item_catalog.specs.Private.Drafts.{DraftValue}
@@ -10,7 +10,7 @@ draft_seen d = record {
   items = d.items.items;
   disks = d.disks.items;
   replans = d.replans.items;
-  last_cycle = d.last_cycle;
+  last_replan_cycle = d.last_replan_cycle;
   updates = d.updates.items;
   updaters = d.updaters;
   update_count = d.update_count;
@@ -21,7 +21,8 @@ draft_seen d = record {
   set = d.set.items;
 }
 
--- What the fields of a draft keep to: the limits, and a list for each updater and each reader that there can be.
+-- What always holds of the fields of a draft: the limits, and that there is a list for each updater and each reader that there
+-- can be.
 pub record DraftKept (d : Inside) : Type 0 where
   pub items : length d.items.items ≤ MOST_ITEMS
   pub disks : length d.disks.items ≤ MOST_DISKS

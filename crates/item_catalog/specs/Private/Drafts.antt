@@ -1,11 +1,11 @@
--- For private steps alone. A deck while it is read: what the declarations so far declare, and what one more declaration adds.
+-- For private steps only. A deck while it is read: what the declarations so far declare, and what one more declaration adds.
 use Rattle.std.specs.Prelude.{◌≡◌, ◌+◌, ◌++◌, ℕ, List, [], ◌∷◌, Bool, Option, Result, Ok, length, max, get_or, map, slice_set, take}
 use Rattle.air_base.specs.declared.limits.TheConstants.{MOST_READERS, MOST_UPDATERS}
 use Rattle.air_history.specs.UpdateLists.{UpdateLists}
 use Rattle.air_model.specs.declared.deck.ReaderPlan.{ReaderPlan}
 use Rattle.item_catalog.specs.Declarations.{Declaration}
 use Rattle.item_catalog.specs.Declarations as e
-use Rattle.item_catalog.specs.Parts.{ReplanSaid, disks_said, items_in, disk_parts_in, last_cycle, replans_in, updates_in, updaters_in, count_updates, readers_in, queries_in, count_queries, script_in, set_in}
+use Rattle.item_catalog.specs.Parts.{ReplanSaid, disks_said, items_in, disk_parts_in, last_replan_cycle, replans_in, updates_in, updaters_in, count_updates, readers_in, queries_in, count_queries, script_in, set_in}
 use Rattle.air_model.specs.Decks.{Deck}
 use Rattle.item_catalog.specs.Decks.{for_each, plain_item, plain_replan, with_freqs}
 use Rattle.item_catalog.specs.Settings.{number_in, settings_in}
@@ -24,7 +24,7 @@ pub record DraftValue : Type 0 where
   pub items : List ItemPart
   pub disks : List DiskPart
   pub replans : List ReplanSaid
-  pub last_cycle : ℕ
+  pub last_replan_cycle : ℕ
   pub updates : List (List UpdateLists)
   pub updaters : ℕ
   pub update_count : ℕ
@@ -40,7 +40,7 @@ draft_of declarations = record {
   items = items_in declarations;
   disks = disk_parts_in declarations;
   replans = replans_in declarations;
-  last_cycle = last_cycle (replans_in declarations);
+  last_replan_cycle = last_replan_cycle (replans_in declarations);
   updates = for_each MOST_UPDATERS (updates_in declarations);
   updaters = updaters_in declarations;
   update_count = count_updates declarations;
@@ -51,15 +51,15 @@ draft_of declarations = record {
   set = set_in declarations;
 }
 
--- One more element at the end of the list at a place.
+-- The lists with one more element at the end of the list at a place.
 abbrev pub push_at : {A : Type 0} → List (List A) → ℕ → A → List (List A)
 push_at lists place x = slice_set lists place (get_or lists place [] ++ x ∷ [])
 
--- One more declaration.
+-- The draft with one more declaration.
 abbrev pub with_declaration : DraftValue → Declaration → DraftValue
 with_declaration d (e.DeclaredItem id value rate) = record d { items = d.items ++ record { value = value; rate = rate } ∷ [] }
 with_declaration d (e.DeclaredDisk size freq) = record d { disks = d.disks ++ record { size = size; freq = freq } ∷ [] }
-with_declaration d (e.DeclaredReplan cycle sizes freqs) = record d { replans = d.replans ++ record { cycle = cycle; disks = disks_said sizes freqs } ∷ []; last_cycle = cycle }
+with_declaration d (e.DeclaredReplan cycle sizes freqs) = record d { replans = d.replans ++ record { cycle = cycle; disks = disks_said sizes freqs } ∷ []; last_replan_cycle = cycle }
 with_declaration d (e.DeclaredUpdate by reads writes) = record d {
   updates = push_at d.updates by (record { reads = reads; writes = writes });
   updaters = max d.updaters (by + 1);
@@ -74,7 +74,7 @@ with_declaration d (e.DeclaredSetting setting) = record d { set = d.set ++ setti
 abbrev pub draft_tests : DraftValue → Declaration → List (FaultKind × Bool)
 draft_tests d (e.DeclaredItem id value rate) = item_tests (length d.items) id rate
 draft_tests d (e.DeclaredDisk size freq) = disk_tests (length d.disks) size freq
-draft_tests d (e.DeclaredReplan cycle sizes freqs) = replan_tests (length d.replans) d.last_cycle cycle sizes freqs
+draft_tests d (e.DeclaredReplan cycle sizes freqs) = replan_tests (length d.replans) d.last_replan_cycle cycle sizes freqs
 draft_tests d (e.DeclaredUpdate by reads writes) = update_tests (length d.items) d.update_count by reads writes
 draft_tests d (e.DeclaredReader room age tries) = reader_tests (length d.readers) room age tries
 draft_tests d (e.DeclaredQuery reader items) = query_tests (length d.items) (length d.readers) d.query_count reader items
@@ -98,7 +98,8 @@ deck_from d = record {
 abbrev pub record_kind : DraftValue → Result Declaration FaultKind → Option FaultKind
 record_kind d spelled = least_kind (draft_tests d) spelled
 
--- A call adds what a record spells, where no kind applies; else it tells the least. What it leaves then is not told.
+-- A call adds what a record spells, if no kind applies; otherwise it answers the least kind, and nothing is said of what it
+-- leaves.
 abbrev pub AddsDeclaration : {A : Type 0} → Result A (Refusal FaultKind) → Result Declaration FaultKind → DraftValue → DraftValue → Type 0
 AddsDeclaration result spelled old new = Answers result (record_kind old spelled) (λ _. new ≡ with_spelled with_declaration old spelled)
 
@@ -106,10 +107,10 @@ AddsDeclaration result spelled old new = Answers result (record_kind old spelled
 abbrev pub UpdateRead : Result (ℕ × UpdateLists) (Refusal FaultKind) → Result Declaration FaultKind → DraftValue → Type 0
 UpdateRead result spelled d = Answers result (record_kind d spelled) (λ read. spelled ≡ Ok (e.DeclaredUpdate read.0 read.1.reads read.1.writes))
 
--- The same for a replan,
+-- A call reads what a replan spells, and adds nothing.
 abbrev pub ReplanRead : Result ReplanSaid (Refusal FaultKind) → Result Declaration FaultKind → DraftValue → Type 0
-ReplanRead result spelled d = Answers result (record_kind d spelled) (λ read. with_spelled with_declaration d spelled ≡ record d { replans = d.replans ++ read ∷ []; last_cycle = read.cycle })
+ReplanRead result spelled d = Answers result (record_kind d spelled) (λ read. with_spelled with_declaration d spelled ≡ record d { replans = d.replans ++ read ∷ []; last_replan_cycle = read.cycle })
 
--- and for a query.
+-- A call reads what a query spells, and adds nothing.
 abbrev pub QueryRead : Result (ℕ × List ℕ) (Refusal FaultKind) → Result Declaration FaultKind → DraftValue → Type 0
 QueryRead result spelled d = Answers result (record_kind d spelled) (λ read. spelled ≡ Ok (e.DeclaredQuery read.0 read.1))

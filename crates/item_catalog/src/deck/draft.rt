@@ -1,7 +1,7 @@
-//! A deck while it is read: the parts that its records declare, one record after the other.
+//! A deck while it is read: the parts that its records declare, one record after another.
 //!
-//! Each call takes a record of one tag, and adds what it spells where no kind of fault applies; else it answers the least
-//! kind. What a draft is after a fault is told by no clause: it is thrown away.
+//! Each call takes a record of one tag. It adds what the record spells if no kind of fault applies, and otherwise answers the
+//! least kind. No clause says what a draft is after a fault: it is dropped.
 
 ghost use Rattle.std.specs.Prelude.{◌≡◌, ◌<◌, ◌≤◌, [], IfOk, drop, length, replicate};
 ghost use Rattle.csv.specs.Records.{fields_of};
@@ -41,13 +41,13 @@ use csv::ByteRecord;
 use std::alloc::Global;
 use std::marker::Model;
 
-/// The parts so far, with a list for each updater and each reader that there can be, and the lists of the record at hand.
+/// The parts so far, with a list for each updater and each reader that there can be, and the lists of the current record.
 #[derive(Debug, Drop)]
 pub struct Draft {
     items: Vec<ItemPart>,
     disks: Vec<DiskPart>,
     replans: Vec<ReplanPart>,
-    last_cycle: u32,
+    last_replan_cycle: u32,
     updates: Vec<Updates>,
     updaters: u32,
     update_count: u32,
@@ -102,7 +102,7 @@ impl Draft {
             items: Vec::new(alloc),
             disks: Vec::new(alloc),
             replans: Vec::new(alloc),
-            last_cycle: 0,
+            last_replan_cycle: 0,
             updates: no_updates(alloc)?,
             updaters: 0,
             update_count: 0,

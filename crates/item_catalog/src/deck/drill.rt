@@ -25,7 +25,7 @@ pub const MOST_DRILL_SIZE: u32 = 100;
 /// The most updates of a drill: ten for each step of its size.
 const MOST_DRILL_UPDATES: u32 = 1_000;
 
-/// The items.
+/// Draws the items.
 fn draw_items(alloc: Global, generator: &mut Lcg64Xsh32, n: u16) -> Result<Vec<ItemPart>, NoMemory>
     ensures { IfOk result (λ items. draw_each n (λ i. draw_item) generator.old ≡ (map plain_item items.items, generator.new)) }
 {
@@ -48,7 +48,7 @@ fn no_updates(alloc: Global) -> Result<Vec<Updates>, NoMemory>
     Ok(lists)
 }
 
-/// The updates of each updater, and the generator that is left.
+/// Draws the updates of each updater, and gives them with the generator that is left.
 fn draw_updates(
     alloc: Global,
     mut generator: Lcg64Xsh32,
@@ -68,7 +68,7 @@ fn draw_updates(
     Ok((lists, generator))
 }
 
-/// The queries of a reader, and the generator that is left.
+/// Draws the queries of a reader, and gives them with the generator that is left.
 fn draw_queries(
     alloc: Global,
     mut generator: Lcg64Xsh32,
@@ -87,7 +87,7 @@ fn draw_queries(
     Ok((queries, generator))
 }
 
-/// The queries of each of the eight readers.
+/// Draws the queries of each of the eight readers.
 fn draw_all_queries(
     alloc: Global,
     mut generator: Lcg64Xsh32,
@@ -106,7 +106,7 @@ fn draw_all_queries(
     Ok(lists)
 }
 
-/// Adds the commit of an update, and a start before each fifth.
+/// Adds the commit of an update, and before each fifth a start.
 fn add_turn(script: &mut Script, u: u32) -> Result<(), NoMemory>
     requires { length script.old ≤ 2 * MOST_DRILL_UPDATES }
     ensures { OnOk result (script.new ≡ script.old ++ turn_of u) }
@@ -118,7 +118,7 @@ fn add_turn(script: &mut Script, u: u32) -> Result<(), NoMemory>
     Ok(())
 }
 
-/// The script of so many updates.
+/// The script of this many updates.
 fn drill_script(alloc: Global, updates: u32) -> Result<Script, NoMemory>
     requires { updates ≤ MOST_DRILL_UPDATES }
     ensures { IfOk result (λ script. script ≡ drill_script updates) }
@@ -132,7 +132,7 @@ fn drill_script(alloc: Global, updates: u32) -> Result<Script, NoMemory>
     Ok(script)
 }
 
-/// The three disks of so many items.
+/// The three disks of this many items.
 fn drill_disks(alloc: Global, n: u16) -> Result<Vec<DiskPart>, NoMemory>
     ensures { IfOk result (λ disks. with_freqs 0 disks.items ≡ drill_disks n) }
 {

@@ -8,7 +8,7 @@ ghost use Rattle.item_catalog.specs.ReplanView.{IsReplan};
 use crate::parts::{DiskPart, ReplanPart};
 use std::marker::Model;
 
-/// The frequency of a disk that says `-`, by the number of disks after it.
+/// The frequency of a disk that has `-`, from the number of disks after it.
 fn graded_freq(after: u32, delta: u32) -> u32
     requires few { after < MOST_DISKS }
     requires small { delta ≤ MOST_DELTA }
@@ -50,7 +50,7 @@ impl<'a> Model for Replan<'a> {
 }
 
 impl<'a> Replan<'a> {
-    /// The replan of what its record says, with the deck's delta.
+    /// The replan that a record gives, with the deck's delta.
     pub(crate) fn of_part(part: &'a ReplanPart, delta: u32) -> Replan<'a>
         requires kept { IsReplan (plain_replan delta part.now) }
         requires small { delta ≤ MOST_DELTA }
@@ -63,7 +63,7 @@ impl<'a> Replan<'a> {
         }
     }
 
-    /// The first cycle in which its program is in force.
+    /// The first cycle in which the replan's program is in force.
     pub fn cycle(&self) -> u32
         ensures told { result ≡ self.now.cycle }
         ensures from_two { 2 ≤ result }
@@ -72,7 +72,7 @@ impl<'a> Replan<'a> {
         self.cycle
     }
 
-    /// The number of its disks.
+    /// The number of the replan's disks.
     pub fn disks(&self) -> u32
         ensures told { result ≡ length self.now.disks }
         ensures few { result ≤ MOST_DISKS }

@@ -1,4 +1,4 @@
-//! The draws of a drill: items, updates and queries, each by the words that are its next.
+//! The draws of a drill: items, updates and queries, each from the next words.
 
 ghost use Rattle.std.specs.Prelude.{◌≡◌, ◌≤◌, ◌<◌, ◌+◌, ◌*◌, ◌%◌, IfOk};
 ghost use Rattle.air_model.specs.Draws.{draw, draw_each};
@@ -20,10 +20,10 @@ const MOST_DRAWN_RATE: u32 = 100;
 /// The amounts of writes are below this number.
 const AMOUNTS: u32 = 100;
 
-/// The most items that are drawn by one: those of a query.
+/// The most items that are drawn together: those of a query.
 pub const MOST_DRAWN: u32 = 4;
 
-/// How many steps an item of a query stands behind the one before.
+/// How many steps an item of a query is after the one before.
 pub const QUERY_GAP: u32 = 7;
 
 /// The next word, modulo m.
@@ -54,7 +54,7 @@ pub fn draw_item(generator: &mut Lcg64Xsh32) -> (u64, u32)
     (value, rate)
 }
 
-/// The item so many steps behind another, around the catalog.
+/// The item this many steps after another, around the catalog.
 fn behind(n: u16, first: u16, steps: u32) -> u16
     requires some { 0 < n }
     requires few { steps ≤ QUERY_GAP * MOST_DRAWN }
@@ -63,7 +63,7 @@ fn behind(n: u16, first: u16, steps: u32) -> u16
     ((u32::from(first) + steps) % u32::from(n)) as u16
 }
 
-/// So many items around the catalog, each a gap behind the one before.
+/// This many items around the catalog, each a gap after the one before.
 fn around(alloc: Global, n: u16, first: u16, gap: u32, count: u32) -> Result<Vec<u16>, NoMemory>
     requires some { 0 < n }
     requires near { gap ≤ QUERY_GAP }
@@ -77,8 +77,8 @@ fn around(alloc: Global, n: u16, first: u16, gap: u32, count: u32) -> Result<Vec
     Ok(items)
 }
 
-/// What was drawn of an update before its writes: how many items there are, how many of them it reads, and the first that it
-/// reads and writes.
+/// What was drawn for an update before its writes: how many items there are, how many of them it reads, and the first items
+/// that it reads and writes.
 #[derive(Clone, Copy, Debug)]
 struct Reach {
     items: u16,
@@ -117,7 +117,7 @@ impl Reach {
         }
     }
 
-    /// The writes, so many.
+    /// Draws this many writes.
     fn draw_writes(
         &self,
         alloc: Global,

@@ -1,4 +1,4 @@
-//! What is the same in each drill, but for its seed: how its readers hear, and its settings.
+//! What is the same in each drill, except for its seed: how its readers hear, and its settings.
 
 ghost use Rattle.std.specs.Prelude.{◌≡◌, IfOk};
 ghost use Rattle.air_model.specs.Drills.{drill_readers, drill_settings};

@@ -1,4 +1,4 @@
-//! The fields behind a record's tag, where there are just so many.
+//! The fields after a record's tag, if there is the right number of them.
 
 ghost use Rattle.std.specs.Prelude.{◌≡◌, ◌<◌, drop, length, option_map, Some};
 ghost use Rattle.csv.specs.Records.{field_at, fields_of};
@@ -19,7 +19,7 @@ fn field(fields: &ByteRecord, place: usize) -> &[u8]
     }
 }
 
-/// The one field.
+/// The one field, if there is just one.
 #[tactic(auto, using(crate::proofs::FieldLemmas::one_field, crate::proofs::FieldLemmas::other_than_one))]
 pub fn one(fields: &ByteRecord) -> Option<&[u8]>
     ensures { option_map (λ f. f.now) result ≡ one_of (drop 1 (fields_of fields.now)) }
@@ -30,7 +30,7 @@ pub fn one(fields: &ByteRecord) -> Option<&[u8]>
     Some(field(fields, 1))
 }
 
-/// The two fields.
+/// The two fields, if there are just two.
 #[tactic(auto, using(crate::proofs::FieldLemmas::two_fields, crate::proofs::FieldLemmas::other_than_two))]
 pub fn two(fields: &ByteRecord) -> Option<(&[u8], &[u8])>
     ensures { option_map (λ f. (f.0.now, f.1.now)) result ≡ two_of (drop 1 (fields_of fields.now)) }
@@ -41,7 +41,7 @@ pub fn two(fields: &ByteRecord) -> Option<(&[u8], &[u8])>
     Some((field(fields, 1), field(fields, 2)))
 }
 
-/// The three fields.
+/// The three fields, if there are just three.
 #[tactic(auto, using(crate::proofs::FieldLemmas::three_fields, crate::proofs::FieldLemmas::other_than_three))]
 pub fn three(fields: &ByteRecord) -> Option<(&[u8], &[u8], &[u8])>
     ensures { option_map (λ f. (f.0.now, f.1.now, f.2.now)) result ≡ three_of (drop 1 (fields_of fields.now)) }
@@ -52,7 +52,7 @@ pub fn three(fields: &ByteRecord) -> Option<(&[u8], &[u8], &[u8])>
     Some((field(fields, 1), field(fields, 2), field(fields, 3)))
 }
 
-/// The four fields.
+/// The four fields, if there are just four.
 #[tactic(auto, using(crate::proofs::FieldLemmas::four_fields, crate::proofs::FieldLemmas::other_than_four))]
 pub fn four(fields: &ByteRecord) -> Option<(&[u8], &[u8], &[u8], &[u8])>
     ensures { option_map (λ f. (f.0.now, f.1.now, f.2.now, f.3.now)) result ≡ four_of (drop 1 (fields_of fields.now)) }
@@ -68,7 +68,7 @@ pub fn four(fields: &ByteRecord) -> Option<(&[u8], &[u8], &[u8], &[u8])>
     ))
 }
 
-/// The five fields.
+/// The five fields, if there are just five.
 #[tactic(auto, using(crate::proofs::ManyFieldLemmas::five_fields, crate::proofs::ManyFieldLemmas::other_than_five))]
 pub fn five(fields: &ByteRecord) -> Option<(&[u8], &[u8], &[u8], &[u8], &[u8])>
     ensures { option_map (λ f. (f.0.now, f.1.now, f.2.now, f.3.now, f.4.now)) result ≡ five_of (drop 1 (fields_of fields.now)) }
@@ -85,7 +85,7 @@ pub fn five(fields: &ByteRecord) -> Option<(&[u8], &[u8], &[u8], &[u8], &[u8])>
     ))
 }
 
-/// The six fields.
+/// The six fields, if there are just six.
 #[tactic(auto, using(crate::proofs::ManyFieldLemmas::six_fields, crate::proofs::ManyFieldLemmas::other_than_six))]
 pub fn six(fields: &ByteRecord) -> Option<(&[u8], &[u8], &[u8], &[u8], &[u8], &[u8])>
     ensures { option_map (λ f. (f.0.now, f.1.now, f.2.now, f.3.now, f.4.now, f.5.now)) result ≡ six_of (drop 1 (fields_of fields.now)) }
@@ -103,7 +103,7 @@ pub fn six(fields: &ByteRecord) -> Option<(&[u8], &[u8], &[u8], &[u8], &[u8], &[
     ))
 }
 
-/// The seven fields.
+/// The seven fields, if there are just seven.
 #[tactic(auto, using(crate::proofs::ManyFieldLemmas::seven_fields, crate::proofs::ManyFieldLemmas::other_than_seven))]
 pub fn seven(fields: &ByteRecord) -> Option<(&[u8], &[u8], &[u8], &[u8], &[u8], &[u8], &[u8])>
     ensures { option_map (λ f. (f.0.now, f.1.now, f.2.now, f.3.now, f.4.now, f.5.now, f.6.now)) result ≡ seven_of (drop 1 (fields_of fields.now)) }

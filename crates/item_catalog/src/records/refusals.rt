@@ -1,4 +1,4 @@
-//! Why a record adds nothing to what is read.
+//! Why a record adds nothing to what was read.
 
 use air_base::NoMemory;
 use std::alloc::{AllocError, AllocFailed};

@@ -1,7 +1,7 @@
 //! A list of items while it is read.
 //!
-//! An item is kept as long as it is declared and wasn't there before, which an array of marks tells at once: so an array has
-//! room for all that is kept, however long a list is. What a list had that isn't kept is remembered.
+//! An item is kept if it is declared and wasn't there before, which an array of marks tells in constant time. So an array has
+//! room for all that is kept, for a list of any length. Of the other items it is remembered that there were some.
 
 ghost use Rattle.std.specs.Prelude.{◌≡◌, ◌<◌, ◌≤◌, ◌&&◌, false, length, nat_lt, not};
 ghost use Rattle.air_base.specs.Numbers.{number_of};
@@ -13,7 +13,7 @@ use air_base::limits::MOST_ITEMS;
 use air_base::{plain_short, read_leading_number};
 use std::marker::Model;
 
-/// The items that are declared and distinct, in order; whether one wasn't declared, or stood twice. The first `count` of
+/// The items that are declared and distinct, in order; whether one wasn't declared, or was there twice. The first `count` of
 /// the array are kept.
 #[derive(Debug, Drop)]
 pub struct ItemList {
@@ -64,14 +64,14 @@ impl ItemList {
         self.undeclared
     }
 
-    /// Whether an item stood twice.
+    /// Whether an item was there twice.
     pub fn has_repeated(&self) -> bool
         ensures { result ≡ self.now.repeated }
     {
         self.repeated
     }
 
-    /// Whether the item is one of them.
+    /// Whether the item is one of the kept ones.
     pub fn has(&self, item: u16) -> bool
         requires { item < MOST_ITEMS }
         ensures { result ≡ among self.now.items item }
@@ -79,7 +79,7 @@ impl ItemList {
         self.marks[item as usize]
     }
 
-    /// Forgets the items.
+    /// Drops the items.
     fn clear(&mut self)
         ensures { self.new ≡ no_items }
     {
@@ -89,7 +89,7 @@ impl ItemList {
         self.count = 0;
     }
 
-    /// Whether an item is declared, and isn't one of them.
+    /// Whether an item is declared, and isn't one of the kept ones.
     fn is_new(&self, declared: u16, item: u64) -> bool
         requires { declared ≤ MOST_ITEMS }
         ensures { result ≡ (nat_lt item declared && not (among self.now.items item)) }
@@ -97,7 +97,7 @@ impl ItemList {
         item < u64::from(declared) && !self.marks[item as usize]
     }
 
-    /// Takes one more item, where those below `declared` are declared.
+    /// Takes one more item; items below `declared` are declared.
     fn see(&mut self, declared: u16, item: u64)
         requires { declared ≤ MOST_ITEMS }
         ensures { self.new ≡ see_item declared self.old item }
@@ -142,8 +142,8 @@ impl ItemList {
         place
     }
 
-    /// Reads the items of a list, where those below `declared` are declared: whether the text spells a list. Where it
-    /// doesn't, no item is kept.
+    /// Reads the items of a list, and says whether the text spells a list; items below `declared` are declared. If the text
+    /// spells none, no item is kept.
     pub fn read(&mut self, declared: u16, text: &[u8]) -> bool
         requires { declared ≤ MOST_ITEMS }
         ensures read { ReadIs result (list_of number_of text.now) (λ items. self.new ≡ items_seen declared items) }

@@ -1,6 +1,6 @@
 //! The leading write of a list, and what follows it.
 //!
-//! What is left at a list's end is mostly a plain part, and is read as such where it is one.
+//! What is left at a list's end is mostly a plain part, and is then read as one.
 
 ghost use Rattle.std.specs.Prelude.{◌≡◌, ◌∷◌, option_map, MatchOption, Some, None, false};
 ghost use Rattle.air_base.specs.Numbers.{number_of};
@@ -11,7 +11,7 @@ ghost use Rattle.item_catalog.specs.Private.WriteParts.{sign_of, write_said};
 use crate::updates::plain_writes::{PLAIN_BYTES, last_write};
 use air_base::{after_byte, ends_part, leading_number, read_leading_number};
 
-/// A write as its text says it.
+/// A write as its text gives it.
 #[derive(Clone, Copy, Debug, PartialEq, Eq)]
 pub struct WritePart {
     pub item: u64,
@@ -20,7 +20,7 @@ pub struct WritePart {
     pub amount: u64,
 }
 
-/// The write of an item and a base, by the text behind the sign.
+/// The write of an item and a base, from the text after the sign.
 #[inline(always)]
 fn leading_changed_write(
     item: u64,
@@ -44,7 +44,7 @@ fn leading_changed_write(
     }
 }
 
-/// Whether the leading sign is a minus, and the text behind it.
+/// Whether the leading sign is a minus, and the text after it.
 fn read_sign(text: &[u8]) -> Option<(bool, &[u8])>
     ensures { MatchOption result ((begins 43 text.now ≡ false) × (begins 45 text.now ≡ false)) (λ s. text.now ≡ sign_of s.0 ∷ s.1.now) }
 {
@@ -54,7 +54,7 @@ fn read_sign(text: &[u8]) -> Option<(bool, &[u8])>
     }
 }
 
-/// The write of an item, by the text behind the `=`.
+/// The write of an item, from the text after the `=`.
 #[tactic(auto, using(crate::proofs::LeadingWriteLemmas::value_number_leading, crate::proofs::LeadingWriteLemmas::value_no_number, crate::proofs::LeadingWriteLemmas::value_other_leading, crate::proofs::LeadingWriteLemmas::after_digits_alone))]
 #[inline(always)]
 fn leading_value_write(item: u64, text: &[u8]) -> Option<(WritePart, &[u8])>

@@ -1,8 +1,8 @@
 //! Writes as most decks spell them, read by their places in a list.
 //!
 //! A plain write has the form `<item>=<base>+<amount>` or `<item>=<base>-<amount>`, where item and base have at most three
-//! digits. What isn't plain is left to the readers of `leading_writes`: so none says nothing of the part. The last part of a
-//! list, where it is too near to the end for the reader by place, is read from a copy with spaces behind it.
+//! digits. What isn't plain is left to the readers of `leading_writes`, so None says nothing about the part. The last part of a
+//! list may be too near to the end for the reader by place: it is then read from a copy with spaces after it.
 
 ghost use Rattle.std.specs.Prelude.{◌≡◌, ◌==◌, ◌<◌, ◌≤◌, ◌+◌, length, IfSome, MatchOption, Some, false};
 ghost use Rattle.air_base.specs.ReadParts.{PlainAt};
@@ -26,7 +26,7 @@ fn is_minus(sign: u8) -> Option<bool>
     Some(sign == b'-')
 }
 
-/// The write of an item, by the plain part's text behind the `=`, and the place at which the part ends.
+/// The write of an item, from the plain part's text after the `=`, and the place at which the part ends.
 #[inline(always)]
 fn plain_value(item: u64, text: &[u8], place: usize) -> Option<(WritePart, usize)>
     requires { place + 8 ≤ length text.now }
@@ -57,7 +57,7 @@ pub fn plain_write(text: &[u8], place: usize) -> Option<(WritePart, usize)>
     plain_value(item, text, equals + 1)
 }
 
-/// The write of the plain part that a short text begins with, and the place at which the part ends.
+/// The write of the plain part at the beginning of a short text, and the place at which the part ends.
 #[inline(never)]
 pub fn last_write(text: &[u8]) -> Option<(WritePart, usize)>
     requires { length text.now < PLAIN_BYTES }

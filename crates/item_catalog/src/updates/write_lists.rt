@@ -1,6 +1,6 @@
 //! A list of writes while it is read.
 //!
-//! As a list of items: a write is kept as long as all that it names is declared and its item wasn't written before.
+//! As in a list of items, a write is kept if all that it names is declared and its item wasn't written before.
 
 ghost use Rattle.std.specs.Prelude.{◌≡◌, ◌<◌, ◌≤◌, ◌||◌, IfSome, false, length};
 ghost use Rattle.air_base.specs.NumberLists.{list_of};
@@ -131,7 +131,7 @@ impl WriteList {
         self.unread
     }
 
-    /// Forgets the writes.
+    /// Drops the writes.
     fn clear(&mut self)
         ensures { self.new ≡ no_writes }
     {
@@ -142,7 +142,7 @@ impl WriteList {
         self.unread = false;
     }
 
-    /// Takes one more write, where the items below `declared` are declared and these are read.
+    /// Takes one more write; items below `declared` are declared, and these are read.
     fn see(&mut self, declared: u16, reads: &ItemList, write: WritePart)
         requires { declared ≤ MOST_ITEMS }
         ensures { self.new ≡ see_write declared reads.now.items self.old (write_said write) }
@@ -187,7 +187,7 @@ impl WriteList {
         place
     }
 
-    /// Reads the writes of a list: whether the text spells a list. Where it doesn't, no write is kept.
+    /// Reads the writes of a list, and says whether the text spells a list. If it doesn't, no write is kept.
     #[inline(never)]
     pub fn read(&mut self, declared: u16, reads: &ItemList, text: &[u8]) -> bool
         requires { declared ≤ MOST_ITEMS }

@@ -1,33 +1,33 @@
--- For private steps alone. The fields of the rooms: the columns of all stand one after another.
+-- For private steps only. The fields of the copy slots: the columns of all are one after another.
 use Rattle.std.specs.Prelude.{◌≡◌, ◌≤◌, ◌*◌, ℕ, List, length, map, get_or, take, drop}
 use Rattle.std.specs.List.{range_with_len}
 use Rattle.air_base.specs.declared.limits.TheConstants.{ITEM_NUMBERS, MOST_ROOM}
-use Rattle.pix_cache.specs.declared.store.Slot.{Slot}
+use Rattle.pix_cache.specs.declared.store.CopySlot.{CopySlot}
 use Rattle.pix_cache.specs.declared.store.Store.TheInside.{Inside}
 use Rattle.pix_cache.specs.Stores.{Store, StoredCopy, stored_copy}
 
--- What is read where there is no room.
-abbrev pub no_slot : Slot
-no_slot = record { cycle = 0; value = 0 }
+-- What is read if there is no copy slot.
+abbrev pub no_copy_slot : CopySlot
+no_copy_slot = record { cycle = 0; value = 0 }
 
--- The column of a room.
+-- The column of a copy slot.
 abbrev pub column_of : ℕ → List ℕ → ℕ → List ℕ
-column_of n entries slot = take n (drop (slot * n) entries)
+column_of n entries copy_slot = take n (drop (copy_slot * n) entries)
 
--- What a room holds.
-abbrev pub stored_in : ℕ → List Slot → List ℕ → ℕ → StoredCopy
-stored_in n slots entries slot = stored_copy (get_or slots slot no_slot).cycle (get_or slots slot no_slot).value (column_of n entries slot)
+-- What a copy slot holds.
+abbrev pub stored_in : ℕ → List CopySlot → List ℕ → ℕ → StoredCopy
+stored_in n copy_slots entries copy_slot = stored_copy (get_or copy_slots copy_slot no_copy_slot).cycle (get_or copy_slots copy_slot no_copy_slot).value (column_of n entries copy_slot)
 
--- What each room holds.
-abbrev pub stored_of : ℕ → List Slot → List ℕ → List StoredCopy
-stored_of n slots entries = map (stored_in n slots entries) (range_with_len 0 (length slots))
+-- What each copy slot holds.
+abbrev pub stored_of : ℕ → List CopySlot → List ℕ → List StoredCopy
+stored_of n copy_slots entries = map (stored_in n copy_slots entries) (range_with_len 0 (length copy_slots))
 
--- The rooms that the fields are.
+-- The copy slots that the fields hold.
 abbrev pub store_of : Inside → Store
-store_of s = record { width = s.n; stores = stored_of s.n s.slots.items s.entries.items }
+store_of s = record { width = s.n; stores = stored_of s.n s.copy_slots.items s.entries.items }
 
--- There are entries for the column of each room.
+-- There are entries for the column of each copy slot.
 pub record IsStore (s : Inside) : Type 0 where
-  pub few : length s.slots.items ≤ MOST_ROOM
+  pub few : length s.copy_slots.items ≤ MOST_ROOM
   pub many : s.n ≤ ITEM_NUMBERS
-  pub sized : length s.entries.items ≡ length s.slots.items * s.n
+  pub sized : length s.entries.items ≡ length s.copy_slots.items * s.n

@@ -1,8 +1,7 @@
--- For private steps alone. The rule of a turnstile: what holds of its two words, its slot and the views of all passes
--- between any two steps. Word 0 is the next ticket, word 1 the one that is served, and the slot has the value while no
--- pass is in a turn. The tickets that are out stand at the distances 0, 1, .. from the one that is served, one view
--- each; each number below the number of passes is in just one view; and each view has seen a beginning of the one list,
--- with all that is its own.
+-- For private steps only. The rule of a turnstile: what holds of its two words, its slot and the views of all passes between
+-- any two steps. Word 0 is the next ticket, and word 1 the one that is served. The slot has the value while no pass is in a
+-- turn. The tickets that are out are at the distances 0, 1, .. from the one that is served, one view each. Each number below
+-- the number of passes is in just one view. Each view has seen a beginning of the one list, with all entries that are its own.
 use Rattle.std.specs.Prelude.{◌≡◌, ℕ, suc, ◌+◌, ◌%◌, ◌^◌, ◌<◌, cond, leb, List, [], ◌∷◌, length, Contains, Option, Some, None}
 use mathlib.Core.Option.{some, none}
 use mathlib.Core.Option as maybe
@@ -13,12 +12,12 @@ use Rattle.turnstile.specs.declared.views.View.{View}
 use Rattle.turnstile.specs.PassEntries.{Below, Continues}
 use Rattle.turnstile.specs.Private.SeatViews.{times, waits, share}
 
--- f of each, added up.
+-- The sum of f over the list.
 abbrev pub total : {A : Type 0} → (A → ℕ) → List A → ℕ
 total f [] = 0
 total f (x ∷ xs) = f x + total f xs
 
--- 1 where n is below the bound, else 0.
+-- 1 if n is below the bound, otherwise 0.
 abbrev pub once_below : ℕ → ℕ → ℕ
 once_below n bound = cond (leb (suc n) bound) 1 0
 
@@ -26,7 +25,7 @@ once_below n bound = cond (leb (suc n) bound) 1 0
 abbrev pub HaveOwnTickets : {E B : Type 0} → List (View E B) → Type 0
 HaveOwnTickets {E} {B} views = (i j : ℕ) (v w : View E B) (t : ℕ) → get_elem? views i ≡ some v → get_elem? views j ≡ some w → v.ticket ≡ Some t → w.ticket ≡ Some t → i ≡ j
 
--- The value is in its slot, or out with the seat of this number.
+-- The value is in its slot, or is out with the seat of this number.
 pub data Phase : Type 0 where
   home : Phase
   out : ℕ → Phase
@@ -35,13 +34,13 @@ module _ {K E B : Type 0} (entries : K → List (ℕ × E)) (base : K → B) whe
   -- What holds of the view v of seat j: now and b are the list and the base of the value, serving is the ticket that is
   -- served, and queue is how many tickets are out.
   pub record Knows (now : List (ℕ × E)) (b : B) (passes serving queue : ℕ) (phase : Phase) (j : ℕ) (v : View E B) : Type 0 where
-    -- It has seen a beginning of the list, with all entries that are its own.
+    -- The view has seen a beginning of the list, with all entries that are its own.
     pub sees : Continues v.sight.numbers v.sight.entries now
     -- A view that has a number has the base and the number of passes.
     pub live : 0 < length v.sight.numbers → (v.base ≡ Some b) × (v.passes ≡ passes)
     -- Only such a view has a ticket, and the ticket is not far from the one that is served.
     pub queues : (t : ℕ) → v.ticket ≡ Some t → (0 < length v.sight.numbers) × ((d : ℕ) × (d < queue) × (t ≡ (serving + d) % 2 ^ 64))
-    -- Only the view whose ticket is served has noted a list, and the list stays as it is until that view gives back.
+    -- Only the view whose ticket is served has noted a list, and the list stays as it is until that view gives the value back.
     pub turns : (l : List (ℕ × E)) → v.noted ≡ Some l → (phase ≡ out j) × (l ≡ now) × (v.ticket ≡ Some serving)
     -- The two lists of a join are beginnings too, each with all entries that have its numbers.
     pub olds : (k : ℕ) (o : Sight E) → get_elem? v.old k ≡ some o → Continues o.numbers o.entries now × ((n : ℕ) → Contains o.numbers n → Contains v.sight.numbers n)

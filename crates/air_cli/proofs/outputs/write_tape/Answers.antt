@@ -2,7 +2,7 @@ use Rattle.std.proofs.Common.{Bor, List, [], ℕ, subst, rules}
 use Rattle.std.specs.Prelude.{Option}
 use Rattle.std.specs.Option.{option_map}
 use Rattle.std.proofs.lemmas.List.{append-nil}
-use Rattle.air_cli.specs.OutputPieces.{IsCutOff}
+use Rattle.air_cli.specs.Private.OutputPieces.{IsCutOff}
 use Rattle.air_cli.proofs.outputs.write_tape.Goals as goal
 
 pub returns-in_err-begin_output-clause-cut : goal.returns-in_err-begin_output-clause-cut

@@ -28,11 +28,11 @@ pub loop-count-preserved : goal.loop-count-preserved
 loop-count-preserved g c =
     let inv = c.loop-count.invariant in
     let come = c.in-Ok-read.ensures.moved in
-    let front = c.in_ok-heard.ensures.front in
+    let beginning = c.in_ok-heard.ensures.beginning in
     let next = c.let_go.new.self.bytes in
     record {
-      far = heard_more next c.hear_whole_records.new.readers inv.far come (omega arith) c.as_slice-in-loop-count.ensures front c.in_ok-heard.ensures.heard c.in_ok-let_go.ensures.rest;
-      rest = rest_after next c.as_slice-in-loop-count.ensures front c.in_ok-let_go.ensures.rest;
+      far = heard_more next c.hear_whole_records.new.readers inv.far come (omega arith) c.as_slice-in-loop-count.ensures beginning c.in_ok-heard.ensures.heard c.in_ok-let_go.ensures.rest;
+      rest = rest_after next c.as_slice-in-loop-count.ensures beginning c.in_ok-let_go.ensures.rest;
       room = c.in_ok-let_go.ensures.room;
       keeps = left_twice inv.keeps c.read.ensures.rest;
       calm = calm_twice inv.calm c.in-Ok-read.ensures.cause.calm;

@@ -1,4 +1,4 @@
-//! The disks of an edition of a deck, as the deck says them: how many there are, and the frequency of each.
+//! The disks of an edition of a deck, as the deck declares them: their number, and the frequency of each.
 
 ghost use Rattle.std.specs.Prelude.{◌≡◌, ◌<◌, length, slice_get, IfSome};
 ghost use Rattle.air_model.specs.Decks.{count_editions, specs_in};

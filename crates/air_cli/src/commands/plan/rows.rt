@@ -1,7 +1,6 @@
 //! The rows of an edition of a deck, written as those of a report.
 //!
-//! A row for the program, then one for each disk, each minor cycle and each item. The numbers are those that the deck, the
-//! program and the cut tell.
+//! There is a row for the program, then one for each disk, each minor cycle and each item. The numbers are those of the deck and the program.
 
 ghost use Rattle.std.specs.Prelude.{◌≡◌, ◌<◌, ◌++◌, None, get_or, length, map, slice_get, IfOk, IfSome, OnOk};
 ghost use Rattle.std.specs.List.{enumerate_from, range_with_len};
@@ -17,7 +16,7 @@ use crate::commands::plan::disks::{disk_count, disk_freq};
 use air_base::{NoMemory, write_u64};
 use air_model::program::slots_law;
 use air_report::{put_numbers, put_row};
-use chunk_program::{Cut, Planned, Program, cut};
+use chunk_program::{Planned, Program};
 use csv::Writer;
 use std::alloc::Global;
 
@@ -35,11 +34,10 @@ pub(crate) fn put_edition(
         ≡ written_text wtr ++ rows_text (edition_rows (rates_in planned.now) (specs_in planned.now edition))) }
 {
     let program = planned.program(edition);
-    let cut = cut(alloc, planned.deck(), edition)?;
     let headed = put_program(alloc, wtr, program)?;
     let disks = put_disks(alloc, headed, planned, edition)?;
     let minors = put_minors(alloc, disks, program)?;
-    let whole = put_items(alloc, minors, &cut, planned, edition)?;
+    let whole = put_items(alloc, minors, planned, edition)?;
     Ok(whole)
 }
 
@@ -149,7 +147,7 @@ fn put_minor(
     Ok(wtr)
 }
 
-/// The slots of a minor cycle, with one space between each two.
+/// The slots of a minor cycle, separated by single spaces.
 fn slots_text(alloc: Global, program: &Program, k: u32) -> Result<Vec<u8>, NoMemory>
     requires { k < num_minors program.now.disks }
     ensures { IfOk result (λ text.
@@ -165,7 +163,7 @@ fn slots_text(alloc: Global, program: &Program, k: u32) -> Result<Vec<u8>, NoMem
     Ok(text)
 }
 
-/// The item of a slot of a minor cycle; none where it is idle.
+/// The item of a slot of a minor cycle, or `None` if the slot is idle.
 fn slot_at(program: &Program, k: u32, j: u32) -> Option<u16>
     requires minor { k < num_minors program.now.disks }
     requires slot { j < minor_len (num_minors program.now.disks) program.now.disks }
@@ -191,13 +189,11 @@ fn put_slot(slot: Option<u16>, text: &mut Vec<u8>) -> Result<(), NoMemory>
 fn put_items(
     alloc: Global,
     wtr: Writer<Vec<u8>>,
-    cut: &Cut,
     planned: &Planned,
     edition: u32,
 ) -> Result<Writer<Vec<u8>>, NoMemory>
     requires ready { IsRowWriter wtr }
     requires edition { edition < count_editions planned.now }
-    requires cut { cut.now ≡ disks_in planned.now edition }
     ensures ready { IfOk result IsRowWriter }
     ensures text { IfOk result (λ more. written_text more
         ≡ written_text wtr ++ rows_text (map (item_row (disks_in planned.now edition)) (enumerate_from 0 (rates_in planned.now)))) }
@@ -205,7 +201,7 @@ fn put_items(
     let deck = planned.deck();
     let mut wtr = wtr;
     for i in 0..deck.items() {
-        wtr = put_item(alloc, wtr, cut, planned, edition, i)?;
+        wtr = put_item(alloc, wtr, planned, edition, i)?;
     }
     Ok(wtr)
 }
@@ -214,14 +210,12 @@ fn put_items(
 fn put_item(
     alloc: Global,
     wtr: Writer<Vec<u8>>,
-    cut: &Cut,
     planned: &Planned,
     edition: u32,
     i: u16,
 ) -> Result<Writer<Vec<u8>>, NoMemory>
     requires ready { IsRowWriter wtr }
     requires edition { edition < count_editions planned.now }
-    requires cut { cut.now ≡ disks_in planned.now edition }
     requires item { i < length planned.now.items }
     ensures ready { IfOk result IsRowWriter }
     ensures text { IfOk result (λ more. IfSome (slice_get planned.now.items i) (λ item.
@@ -231,7 +225,7 @@ fn put_item(
     let program = planned.program(edition);
     let ns = [
         u64::from(i),
-        u64::from(cut.disk_of(i)),
+        u64::from(program.disk_of(i)),
         u64::from(program.times(i)),
         u64::from(program.gap(i)),
         u64::from(program.next_wake(0, i)),

@@ -5,9 +5,9 @@ use Rattle.air_ether.proofs.cursor.seek.Given as goal
 
 abbrev pub invariant-loop-cursor : goal.invariant-loop-cursor
 invariant-loop-cursor l = record {
-  within : InWindow l.pushes l.limit (map push_of l.rooms) l.cursor;
+  within : InWindow l.pushes l.limit (map push_of l.queue) l.cursor;
   fewer : left_at l.limit l.cursor ≤ left_at l.limit l.initial.cursor;
-  same : (due times : ℕ → ℕ) → Waits due times l.pushes (map push_of l.rooms) →
+  same : (due times : ℕ → ℕ) → Waits due times l.pushes (map push_of l.queue) →
       position due times l.pushes l.cursor ≡ position due times l.pushes l.initial.cursor;
 }
 

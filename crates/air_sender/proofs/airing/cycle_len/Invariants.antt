@@ -9,5 +9,6 @@ use Rattle.air_sender.proofs.airing.cycle_len.Given as goal
 abbrev pub invariant-loop-slot : goal.invariant-loop-slot
 invariant-loop-slot l = record {
   len : l.len ≡ cycle_size l.version l.n (take l.slot (slots_of l.program.disks));
+  some : l.slot ≤ l.len;
   few : l.len ≤ (LENGTH_BYTES + HEAD_BYTES + ENTRY_BYTES * MOST_ITEMS) * l.slot;
 }

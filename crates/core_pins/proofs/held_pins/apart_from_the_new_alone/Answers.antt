@@ -1,4 +1,4 @@
--- The clause, at the reads that are held.
+-- The clause, for the reads that are held.
 use Rattle.std.proofs.Common.{[], ◌∷◌, ◌++◌, ◌∙◌, map, ap}
 use Rattle.air_history.specs.Ages.{span, spans_too_far}
 use Rattle.air_history.specs.Clashes.{read_at}

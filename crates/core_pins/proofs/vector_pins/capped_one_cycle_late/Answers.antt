@@ -1,4 +1,4 @@
--- The clause, at the values that are handed in. The vector of cycle 256 has the write of cycle 1 as an age tells it.
+-- The clause, for the given values. The vector of cycle 256 has the write of cycle 1 as an age gives it.
 use Rattle.std.proofs.Common.{◌≡◌, ◌⊎◌, ℕ, zero, suc, ◌<◌, false, List, [], ◌∷◌, get_or, map, refl, sym, ap, subst, inl, inr, arith}
 use Rattle.std.proofs.lemmas.List.Elements.{All-from_recursion}
 use Rattle.air_base.specs.declared.verdicts.Policy.TheVariants.{Datacycle}
@@ -18,7 +18,7 @@ each_of_three P p q r (suc zero) l = q
 each_of_three P p q r (suc (suc zero)) l = r
 each_of_three P p q r (suc (suc (suc k))) l = absurd (omega arith)
 
--- An entry is the aired one, or what an age tells of it.
+-- An entry is the aired one, or the aired one as an age gives it.
 abbrev IsTold : List ℕ → List ℕ → ℕ → ℕ → Type 0
 IsTold entries aired c i = (get_or entries i 0 ≡ get_or aired i 0) ⊎ (get_or entries i 0 ≡ capped (get_or aired i 0) c)
 

@@ -1,4 +1,4 @@
--- The clause, at the values that are handed in.
+-- The clause, for the given values.
 use Rattle.std.proofs.Common.{◌≡◌, ◌↔◌, ℕ, List, [], ◌∷◌, ◌++◌, map, None, subst, inl}
 use Rattle.air_base.specs.declared.verdicts.Policy.TheVariants.{Datacycle}
 use Rattle.air_history.specs.declared.histories.Event.{Event}

@@ -1,5 +1,5 @@
-use Rattle.deck_runs.proofs.HeardRunLemmas.{run_length}
+use Rattle.deck_runs.proofs.HeardRunLemmas.{run_length, run_sum}
 use Rattle.deck_runs.proofs.laws.run_length_law.Goals as goal
 
 pub returns : goal.returns
-returns c = run_length
+returns c = record { same = run_length; sum = run_sum }

@@ -1,7 +1,7 @@
 use Rattle.std.proofs.Common.{◌≡◌, length, All, sym, ap, subst, ◌∙◌, rules, arith}
 use Rattle.std.proofs.lemmas.List.{with_items_is}
 use Rattle.air_devices.specs.Masts.{Changes, with_buckets}
-use Rattle.deck_runs.specs.Crews.{EachWatched}
+use Rattle.deck_runs.specs.Private.Crews.{EachWatched}
 use Rattle.deck_runs.specs.declared.jobs.crews.MonitorRun.{MonitorRun}
 use Rattle.deck_runs.specs.declared.jobs.TheConstants.{LOOKS}
 use Rattle.cycle_snapshot.specs.Beginnings.{Beginning}

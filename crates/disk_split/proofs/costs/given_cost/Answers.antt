@@ -26,7 +26,7 @@ bounds-chunks-disk c =
     let a = (goal.at.bounds-chunks-disk c).After-size-size in
     chunk_within c.args.sums.now c.args.chunks.now (sizes_in c.args.deck.now) c.loop-disk.from c.loop-disk.disk c.size-size.result c.loop-disk.invariant.rest (below a) (size_is a)
 
--- Where the disk's items end.
+-- The place at which the disk's items end.
 end_is : (c : After-from) → c.loop-disk.from + c.from.result < length c.args.sums.now
 end_is c =
     let a = (goal.at.overflow_add-end c).After-size-size in let e = c.from.ensures in

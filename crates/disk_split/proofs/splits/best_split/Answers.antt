@@ -51,7 +51,7 @@ returns-then-slots-gt-MOST_SLOTS-clause-long c =
     let low = least_is ((goal.at.returns-then-slots-gt-MOST_SLOTS-clause-long c).After-least_minor) in
     too_long c.args.deck.now c.shows_well_made.ensures.made c.least_minor.result _ low (ap (λ m. m * c.least_minor.result) c.minors-minors.ensures.counted) c.if-slots-gt-MOST_SLOTS.true
 
--- ---- where some split is short
+-- ---- if some split is short
 -- The fewest slots are no more than a program may have, so there are few minor cycles.
 fits : (c : After-deref-3) → minors_in c.args.deck.now * c.least_minor.result ≤ MOST_SLOTS
 fits c = let is = ap (λ m. m * c.least_minor.result) c.minors-minors.ensures.counted in let low = c.if-slots-gt-MOST_SLOTS.false in omega arith

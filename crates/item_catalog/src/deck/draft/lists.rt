@@ -22,7 +22,7 @@ use air_history::Update;
 use csv::ByteRecord;
 use std::alloc::Global;
 
-/// The least kind that applies to an update, where so many updates were given before it.
+/// The least kind that applies to an update, if this many updates were given before it.
 #[inline(always)]
 fn update_kind(reads: &ItemList, writes: &WriteList, by: u64, given: u32) -> Option<FaultKind>
     ensures { result ≡ seen_update_kind reads.now writes.now by given }
@@ -48,7 +48,7 @@ fn update_kind(reads: &ItemList, writes: &WriteList, by: u64, given: u32) -> Opt
     None
 }
 
-/// The least kind that applies to a query, where so many readers and queries were declared before it.
+/// The least kind that applies to a query, if this many readers and queries were declared before it.
 fn query_kind(asked: &ItemList, readers: usize, reader: u64, given: u32) -> Option<FaultKind>
     ensures { result ≡ seen_query_kind asked.now readers reader given }
 {

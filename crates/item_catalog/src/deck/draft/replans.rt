@@ -1,6 +1,6 @@
 //! Records of replans: a cycle, and the lists of sizes and of frequencies.
 //!
-//! A list may be as long as a record. So at most one part more is kept of it than a replan may have disks.
+//! A list may be as long as a record. So at most one more part is kept of it than a replan may have disks.
 
 ghost use Rattle.std.specs.Prelude.{◌≡◌, ◌<◌, ◌≤◌, ◌||◌, IfOk, OnOk, [], drop, false, length, option_map};
 ghost use Rattle.csv.specs.Records.{fields_of};
@@ -29,7 +29,7 @@ use air_base::{read_leading_number, read_u64};
 use csv::ByteRecord;
 use std::alloc::{AllocFailed, Global};
 
-/// The frequency that the first part spells: none is `-`.
+/// The frequency that the first part spells; `-` is None.
 #[tactic(auto, using(crate::proofs::PartWords::dash_freq, crate::proofs::PartWords::number_freq, crate::proofs::PartWords::after_dash))]
 fn leading_freq(text: &[u8]) -> Option<(Option<u64>, &[u8])>
     ensures { LeadingIs freq_of text.now (option_map (λ f. (f.0, f.1.now)) result) }
@@ -43,7 +43,7 @@ fn leading_freq(text: &[u8]) -> Option<(Option<u64>, &[u8])>
     }
 }
 
-/// Takes one more size: whether it, or one before it, is no size of a disk.
+/// Takes one more size, and says whether it, or one before it, is no size of a disk.
 fn take_size(sizes: &mut Vec<u16>, wrong: bool, size: u64) -> Result<bool, AllocFailed<u16>>
     ensures wrong { IfOk result (λ now. now ≡ (wrong || outside 1 MOST_SIZE size)) }
     ensures kept { IfOk result (λ now. now ≡ false → sizes.new.items ≡ keep_part sizes.old.items size) }
@@ -57,7 +57,7 @@ fn take_size(sizes: &mut Vec<u16>, wrong: bool, size: u64) -> Result<bool, Alloc
     Ok(false)
 }
 
-/// Takes one more frequency: whether it, or one before it, is no frequency of a disk.
+/// Takes one more frequency, and says whether it, or one before it, is no frequency of a disk.
 fn take_freq(
     freqs: &mut Vec<Option<u32>>,
     wrong: bool,
@@ -75,7 +75,7 @@ fn take_freq(
     Ok(false)
 }
 
-/// Reads the sizes of a list: whether some is no size of a disk, and none where the text spells no list.
+/// Reads the sizes of a list, and says whether some is no size of a disk; None if the text spells no list.
 fn read_sizes(sizes: &mut Vec<u16>, text: &[u8]) -> Result<Option<bool>, AllocFailed<u16>>
     requires { sizes.old.items ≡ [] }
     ensures { IfOk result (λ read. PartsRead (outside 1 MOST_SIZE) read (list_of number_of text.now) sizes.new.items) }
@@ -97,7 +97,7 @@ fn read_sizes(sizes: &mut Vec<u16>, text: &[u8]) -> Result<Option<bool>, AllocFa
     }
 }
 
-/// Reads the frequencies of a list: whether some is no frequency of a disk, and none where the text spells no list.
+/// Reads the frequencies of a list, and says whether some is no frequency of a disk; None if the text spells no list.
 fn read_freqs(
     freqs: &mut Vec<Option<u32>>,
     text: &[u8],
@@ -122,7 +122,7 @@ fn read_freqs(
     }
 }
 
-/// The disks of sizes and as many frequencies.
+/// The disks of these sizes and as many frequencies.
 fn disks_of(
     alloc: Global,
     sizes: &[u16],
@@ -141,7 +141,7 @@ fn disks_of(
     Ok(disks)
 }
 
-/// The least kind that applies to a replan, after so many replans with this last cycle.
+/// The least kind that applies to a replan, after this many replans with this last cycle.
 fn replan_kind(
     wrong: bool,
     replans: usize,
@@ -197,7 +197,7 @@ impl Draft {
         if let Some(kind) = replan_kind(
             wrong,
             self.replans.len(),
-            self.last_cycle,
+            self.last_replan_cycle,
             cycle,
             kept_sizes.len(),
             kept_freqs.len(),
@@ -219,7 +219,7 @@ impl Draft {
         let replan = self.read_replan(alloc, fields)?;
         let cycle = replan.cycle();
         self.replans.push(replan)?;
-        self.last_cycle = cycle;
+        self.last_replan_cycle = cycle;
         Ok(())
     }
 }

@@ -101,7 +101,7 @@ fn range_of(name: Name) -> (u64, u64)
     }
 }
 
-/// The setting of a name and a number, where the number is in its range.
+/// The setting of a name and a number, if the number is in its range.
 fn number_set(name: Option<Name>, number: Option<u64>) -> Option<Setting>
     ensures { result ≡ number_set name number }
 {
@@ -179,7 +179,7 @@ fn default_of(name: Name) -> u64
     }
 }
 
-/// What a setting says of a name.
+/// What a setting says for a name.
 fn number_said(name: Name, setting: Setting) -> Option<u64>
     ensures { result ≡ number_said name setting }
 {
@@ -215,7 +215,7 @@ fn policy_in(set: &[Setting]) -> Policy
     Policy::FMatrix
 }
 
-/// All settings, where these were set.
+/// All settings, if these were set.
 pub fn settings_in(set: &[Setting]) -> Settings
     requires within { SettingsWithin (settings_in set.now) }
     requires version { number_in Name.Version set.now ≤ NEWEST_VERSION }
@@ -245,7 +245,7 @@ pub fn most_items(set: &[Setting]) -> usize
     }
 }
 
-/// By how much the frequencies of disks that say none differ.
+/// How much the frequencies of disks that give none differ.
 pub fn delta_in(set: &[Setting]) -> u32
     requires { number_in Name.Delta set.now ≤ MOST_DELTA }
     ensures { result ≡ number_in Name.Delta set.now }

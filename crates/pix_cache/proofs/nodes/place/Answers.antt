@@ -12,8 +12,8 @@ pub loop-node-init : goal.loop-node-init
 loop-node-init c = record {
   some = omega arith;
   within = omega arith;
-  nodes = λ v some l apart. node_kept c.args.nodes.now (c.args.rooms + c.args.leaf.slot) c.args.leaf v (λ e. absurd (omega arith)) apart (c.requires.tree.nodes v some l);
-  leaves = drop-set-add c.args.rooms c.args.nodes.now c.args.leaf.slot c.args.leaf;
+  nodes = λ v some l apart. node_kept c.args.nodes.now (c.args.copy_slots + c.args.leaf.copy_slot) c.args.leaf v (λ e. absurd (omega arith)) apart (c.requires.tree.nodes v some l);
+  leaves = drop-set-add c.args.copy_slots c.args.nodes.now c.args.leaf.copy_slot c.args.leaf;
 }
 
 mended : (tree : List Leaf) (up : ℕ) (x : Leaf) (v : ℕ) → 1 ≤ up → up < length tree → x ≡ lighter (get_or tree (2 * up) nowhere) (get_or tree (2 * up + 1) nowhere) → v ≢ up / 2 →
@@ -25,15 +25,15 @@ pub loop-node-preserved : goal.loop-node-preserved
 loop-node-preserved c =
     let tree = c.loop-node.nodes in
     let up = c.loop-node.node / 2 in
-    let size : length tree ≡ 2 * c.args.rooms = c.loop-node.auto.nodes ∙ length-set c.args.nodes.now _ _ ∙ c.requires.tree.size in
+    let size : length tree ≡ 2 * c.args.copy_slots = c.loop-node.auto.nodes ∙ length-set c.args.nodes.now _ _ ∙ c.requires.tree.size in
     let within = c.loop-node.invariant.within in
-    let low : up < c.args.rooms = omega arith in
+    let low : up < c.args.copy_slots = omega arith in
     let some : 1 ≤ up = omega arith in
     record {
       some = some;
       within = omega arith;
       nodes = λ v more l apart. mended tree up c.lighter_of.result v some (omega arith) c.lighter_of.ensures apart (c.loop-node.invariant.nodes v more l) (cases_eq v up);
-      leaves = drop-set-lt c.args.rooms tree up c.lighter_of.result low ∙ c.loop-node.invariant.leaves;
+      leaves = drop-set-lt c.args.copy_slots tree up c.lighter_of.result low ∙ c.loop-node.invariant.leaves;
     }
 
 pub returns-clause-tree : goal.returns-clause-tree

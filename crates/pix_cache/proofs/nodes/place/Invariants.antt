@@ -6,9 +6,9 @@ use Rattle.pix_cache.proofs.nodes.place.Given as goal
 abbrev pub invariant-loop-node : goal.invariant-loop-node
 invariant-loop-node l = record {
   some : 1 ≤ l.node;
-  within : l.node < 2 * l.rooms;
-  nodes : (v : ℕ) → 1 ≤ v → v < l.rooms → v ≢ l.node / 2 → IsNode l.nodes v;
-  leaves : drop l.rooms l.nodes ≡ slice_set (drop l.rooms l.fn.nodes) l.fn.leaf.slot l.fn.leaf;
+  within : l.node < 2 * l.copy_slots;
+  nodes : (v : ℕ) → 1 ≤ v → v < l.copy_slots → v ≢ l.node / 2 → IsNode l.nodes v;
+  leaves : drop l.copy_slots l.nodes ≡ slice_set (drop l.copy_slots l.fn.nodes) l.fn.leaf.copy_slot l.fn.leaf;
 }
 
 abbrev pub decreases-loop-node : goal.decreases-loop-node

@@ -3,9 +3,9 @@ use Rattle.pix_cache.specs.Leaves.{nowhere, renumbered_leaf}
 use Rattle.pix_cache.specs.Private.Trees.{IsTree}
 use Rattle.pix_cache.proofs.nodes.renumber.Given as goal
 
-abbrev pub invariant-loop-slot : goal.invariant-loop-slot
-invariant-loop-slot l = record {
-  tree : IsTree l.rooms l.nodes;
-  done : (s : ℕ) → s < l.slot → get_or (drop l.rooms l.nodes) s nowhere ≡ renumbered_leaf l.pix (get_or (drop l.rooms l.fn.nodes) s nowhere);
-  left : (s : ℕ) → l.slot ≤ s → s < l.rooms → get_or (drop l.rooms l.nodes) s nowhere ≡ get_or (drop l.rooms l.fn.nodes) s nowhere;
+abbrev pub invariant-loop-copy_slot : goal.invariant-loop-copy_slot
+invariant-loop-copy_slot l = record {
+  tree : IsTree l.copy_slots l.nodes;
+  done : (s : ℕ) → s < l.copy_slot → get_or (drop l.copy_slots l.nodes) s nowhere ≡ renumbered_leaf l.pix (get_or (drop l.copy_slots l.fn.nodes) s nowhere);
+  left : (s : ℕ) → l.copy_slot ≤ s → s < l.copy_slots → get_or (drop l.copy_slots l.nodes) s nowhere ≡ get_or (drop l.copy_slots l.fn.nodes) s nowhere;
 }

@@ -10,5 +10,6 @@ use Rattle.scripts.proofs.sizes.longest_cycle.Given as goal
 abbrev pub invariant-loop-edition : goal.invariant-loop-edition
 invariant-loop-edition l = record {
   told : l.longest ≡ greatest_of (edition_size l.planned) (range_with_len 0 l.edition);
+  some : 1 ≤ l.edition → 1 ≤ l.longest;
   few : l.longest ≤ (LENGTH_BYTES + HEAD_BYTES + ENTRY_BYTES * MOST_ITEMS) * MOST_SLOTS;
 }

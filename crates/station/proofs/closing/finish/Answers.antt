@@ -26,7 +26,7 @@ loop-next-preserved c =
     let nums = c.next.invariant.0.numbers in
     let more : (m : ℕ) → Contains first.numbers m → Contains c.join.new.pass.numbers m = λ m h. subst (λ ns. Contains ns m) (sym (ap (λ q. q.numbers) j)) (Contains-append_left first.numbers other.numbers m h) in
     let here : Contains c.join.new.pass.numbers p.number = subst (λ ns. Contains ns p.number) (sym (ap (λ q. q.numbers) j)) (Contains-append_right first.numbers other.numbers p.number (subst (λ ns. Contains ns p.number) (sym nums) (0, omega arith, by))) in (
-      ap (λ q. q.gate) j ∙ i.0,
+      ap (λ q. q.turnstile) j ∙ i.0,
       ap (λ q. q.passes) j ∙ i.1,
       ap (λ q. q.base) j ∙ i.2,
       ap (λ q. q.turn) j ∙ i.3,

@@ -8,7 +8,7 @@ use Rattle.station.proofs.closing.finish.Given as goal
 -- The passes that are gone were joined to the first one.
 abbrev pub invariant-loop-next : goal.invariant-loop-next
 invariant-loop-next l =
-    (l.first.gate ≡ l.station-inside.turnstile) × (l.first.passes ≡ l.initial.first.passes) × (l.first.base ≡ l.initial.first.base) × (l.first.turn ≡ None)
+    (l.first.turnstile ≡ l.station-inside.turnstile) × (l.first.passes ≡ l.initial.first.passes) × (l.first.base ≡ l.initial.first.base) × (l.first.turn ≡ None)
     × ((m : ℕ) → Contains l.initial.first.numbers m → Contains l.first.numbers m)
     × Continues l.initial.first.numbers l.initial.first.seen l.first.seen
     × All (λ (p : PassState). p.station ≡ l.fn.station) l.passes.items

@@ -1,4 +1,4 @@
--- The column is in range as it is told, and its bytes are known.
+-- The column is in range with capped entries, and its bytes are known.
 use Rattle.text_pins.proofs.BucketLemmas.{aged_in_range, aged_written}
 use Rattle.text_pins.proofs.buckets.cap_one_cycle_early.Goals as goal
 

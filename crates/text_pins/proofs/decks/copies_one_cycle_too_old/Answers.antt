@@ -1,4 +1,4 @@
--- The text has this fault, so no other is answered.
+-- The text has this fault, so no other is given.
 use Rattle.text_pins.proofs.DeckLemmas.{too_old, told}
 use Rattle.text_pins.proofs.decks.copies_one_cycle_too_old.Goals as goal
 

@@ -1,4 +1,4 @@
--- The text has this fault, so no other is answered.
+-- The text has this fault, so no other is given.
 use Rattle.text_pins.proofs.DeckLemmas.{overdrawn, told}
 use Rattle.text_pins.proofs.decks.earlier_script_records_forgotten.Goals as goal
 

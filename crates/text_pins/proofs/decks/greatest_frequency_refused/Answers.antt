@@ -1,4 +1,4 @@
--- The text has this fault, so no other is answered.
+-- The text has this fault, so no other is given.
 use Rattle.text_pins.proofs.DeckLemmas.{sizes_apart, told}
 use Rattle.text_pins.proofs.decks.greatest_frequency_refused.Goals as goal
 

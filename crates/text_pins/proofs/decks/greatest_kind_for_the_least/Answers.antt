@@ -1,4 +1,4 @@
--- The text has this fault, so no other is answered.
+-- The text has this fault, so no other is given.
 use Rattle.text_pins.proofs.DeckLemmas.{wrong_id, told}
 use Rattle.text_pins.proofs.decks.greatest_kind_for_the_least.Goals as goal
 

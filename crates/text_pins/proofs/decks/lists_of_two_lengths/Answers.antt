@@ -1,4 +1,4 @@
--- The text has this fault, so no other is answered.
+-- The text has this fault, so no other is given.
 use Rattle.text_pins.proofs.DeckLemmas.{told, two_lengths}
 use Rattle.text_pins.proofs.decks.lists_of_two_lengths.Goals as goal
 

@@ -1,4 +1,4 @@
--- The text has this fault, so no other is answered.
+-- The text has this fault, so no other is given.
 use Rattle.text_pins.proofs.DeckLemmas.{tag_unknown, told}
 use Rattle.text_pins.proofs.decks.record_before_the_faulty_one.Goals as goal
 

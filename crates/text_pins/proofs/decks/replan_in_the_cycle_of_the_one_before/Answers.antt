@@ -1,4 +1,4 @@
--- The text has this fault, so no other is answered.
+-- The text has this fault, so no other is given.
 use Rattle.text_pins.proofs.DeckLemmas.{one_cycle, told}
 use Rattle.text_pins.proofs.decks.replan_in_the_cycle_of_the_one_before.Goals as goal
 

@@ -1,4 +1,4 @@
--- The text has this fault, so no other is answered.
+-- The text has this fault, so no other is given.
 use Rattle.text_pins.proofs.DeckLemmas.{field_missing, told}
 use Rattle.text_pins.proofs.decks.setting_checked_before_its_fields.Goals as goal
 

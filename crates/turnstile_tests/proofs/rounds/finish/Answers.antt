@@ -15,12 +15,12 @@ loop-pass-preserved c =
     let w = c.in-Some-pop.field-0 in
     let items : c.loop-pass.workers.items ≡ c.pop-in-loop-pass.new.self.items ++ c.in-Some-pop.field-0 ∷ [] = c.in-Some-pop.ensures.items in
     let long : length c.loop-pass.workers.items ≡ length new + 1 = ap length items ∙ length-append new (w ∷ []) in
-    let ready = all_but_last (λ (w : Worker). IsReady c.args.gate c.args.passes c.args.mark w) new w (subst (λ ws. All (λ (w : Worker). IsReady c.args.gate c.args.passes c.args.mark w) ws) items i.5) in
+    let ready = all_but_last (λ (w : Worker). IsReady c.args.turnstile c.args.passes c.args.mark w) new w (subst (λ ws. All (λ (w : Worker). IsReady c.args.turnstile c.args.passes c.args.mark w) ws) items i.5) in
     let order = order_but_last new w (subst InOrder items i.6) in
     let j = c.join.ensures.pass in
     let nums = ready.1.3 in
     let by = order.1 in (
-      ap (λ p. p.gate) j ∙ i.0,
+      ap (λ p. p.turnstile) j ∙ i.0,
       ap (λ p. p.passes) j ∙ i.1,
       ap (λ p. p.base) j ∙ i.2,
       ap (λ p. p.turn) j ∙ i.3,

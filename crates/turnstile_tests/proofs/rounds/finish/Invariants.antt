@@ -6,9 +6,9 @@ use Rattle.turnstile_tests.proofs.rounds.finish.Given as goal
 -- The pass stands for the numbers of the workers that are gone.
 abbrev pub invariant-loop-pass : goal.invariant-loop-pass
 invariant-loop-pass l =
-    (l.all.gate ≡ l.gate) × (l.all.passes ≡ l.passes) × (l.all.base ≡ Some l.mark) × (l.all.turn ≡ None)
+    (l.all.turnstile ≡ l.turnstile) × (l.all.passes ≡ l.passes) × (l.all.base ≡ Some l.mark) × (l.all.turn ≡ None)
     × ((m : ℕ) → length l.workers.items ≤ m → m < l.passes → Contains l.all.numbers m)
-    × All (λ w. IsReady l.gate l.passes l.mark w) l.workers.items
+    × All (λ w. IsReady l.turnstile l.passes l.mark w) l.workers.items
     × InOrder l.workers.items
 
 abbrev pub decreases-loop-pass : goal.decreases-loop-pass

@@ -23,6 +23,6 @@ loop-pass-preserved c =
     let more : length c.push.new.self.items ≡ length c.loop-pass.workers.items + 1 = ap length pushed ∙ length-append c.loop-pass.workers.items _ in (
       omega arith,
       λ k p e. i.1 k p (subst (λ l. slice_get l k ≡ Some p) (sym items) (within_front new pass k p e)),
-      rw pushed (All-push (λ (w : Worker). IsReady c.args.gate.now (length c.args.passes.items) c.args.mark w) c.loop-pass.workers.items _ i.2 (q.0, q.1, q.2, q.3 ∙ ap (λ k. k ∷ []) (sym by), q.4)),
+      rw pushed (All-push (λ (w : Worker). IsReady c.args.turnstile.now (length c.args.passes.items) c.args.mark w) c.loop-pass.workers.items _ i.2 (q.0, q.1, q.2, q.3 ∙ ap (λ k. k ∷ []) (sym by), q.4)),
       rw pushed (counts_push (length c.args.passes.items) c.loop-pass.workers.items _ i.3 counts),
     )

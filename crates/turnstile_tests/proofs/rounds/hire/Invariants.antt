@@ -7,7 +7,7 @@ abbrev pub invariant-loop-pass : goal.invariant-loop-pass
 invariant-loop-pass l =
     (length l.workers.items + length l.passes.items ≡ length l.initial.passes.items)
     × ((k : ℕ) (p : _) → slice_get l.passes.items k ≡ Some p → slice_get l.initial.passes.items k ≡ Some p)
-    × All (λ w. IsReady l.gate (length l.initial.passes.items) l.mark w) l.workers.items
+    × All (λ w. IsReady l.turnstile (length l.initial.passes.items) l.mark w) l.workers.items
     × CountDown (length l.initial.passes.items) l.workers.items
 
 abbrev pub decreases-loop-pass : goal.decreases-loop-pass

@@ -15,8 +15,8 @@ returns-in_err-aired-clause-stopped g c =
     let h : IsStopped output c.args.planned.now (S.state before) (S.state c.air_script.new.output) c.in_err-aired.field-0.0 = c.in_err-aired.ensures.stopped before c.in-Ok.ensures.begun in
     search (rules, h)
 
-pub returns-in_err-text-clause-stopped : goal.returns-in_err-text-clause-stopped
-returns-in_err-text-clause-stopped g c =
+pub returns-in_err-text-2-clause-stopped : goal.returns-in_err-text-2-clause-stopped
+returns-in_err-text-2-clause-stopped g c =
     let S = g.S.Shelf in
     let output : Option (List ℕ) = option_map (λ (name : Bor (List ℕ)). name.now) c.args.output in
     let d = c.args.planned.now in
@@ -27,3 +27,12 @@ returns-in_err-text-clause-stopped g c =
 
 pub returns-clause-whole : goal.returns-clause-whole
 returns-clause-whole g c = c.in_ok-aired.ensures.taken c.args.shelf.now c.in-Ok.ensures.begun
+
+pub returns-in_err-text-clause-stopped : goal.returns-in_err-text-clause-stopped
+returns-in_err-text-clause-stopped g c =
+    let S = g.S.Shelf in
+    let output : Option (List ℕ) = option_map (λ (name : Bor (List ℕ)). name.now) c.args.output in
+    let d = c.args.planned.now in
+    let h : IsStopped output d (S.state c.args.shelf.now) (S.state c.begin_output.new.shelf) status.NoMemory =
+    inl (refl, record { so_far = []; left = script_tape d; joined = refl; taken = c.in-Ok.ensures.begun }) in
+    search (rules, h)

@@ -8,4 +8,4 @@ pub returns-clause-few : goal.returns-clause-few
 returns-clause-few c =
     let e : Ether = ether_in c.self.inside in
     let quiet : e.cursor.number ≡ limit_of e.ended e.pushes = subst (λ (s : Ether). s.cursor.number ≡ limit_of s.ended s.pushes) (sym c.self.view_is) c.requires in
-    few_after_end e.pushes e.ended e.rooms e.cursor c.self.invariant.within quiet
+    few_after_end e.pushes e.ended e.queue e.cursor c.self.invariant.within quiet

@@ -8,13 +8,13 @@ use Rattle.air_ether.specs.KeptPushes.{Waits, push_of}
 use Rattle.air_ether.specs.PushWords.{due_in, times_in}
 use Rattle.air_ether.specs.EtherFields.{ether_in}
 use Rattle.air_ether.specs.LentBuckets.{Gave}
-use Rattle.air_ether.proofs.CursorLemmas.{copies_few, room_read}
+use Rattle.air_ether.proofs.CursorLemmas.{queued_read, times_few}
 use Rattle.air_ether.proofs.EtherLemmas.{all_given, gave, gives, gives_pushed, moved}
 use Rattle.air_ether.proofs.ether.Ether.next.Goals as goal
 
--- What `seek` says, of the ether's own rooms and limit.
-in_window : (pushes limit to : ℕ) (rooms items : List QueuedPush) (c : Cursor) → limit ≡ to → rooms ≡ items → InWindow pushes limit (map push_of rooms) c → InWindow pushes to (map push_of items) c
-in_window pushes limit to rooms items c e f w = subst (λ l. InWindow pushes l (map push_of items) c) e (subst (λ (r : List QueuedPush). InWindow pushes limit (map push_of r) c) f w)
+-- What `seek` says of the ether's own rooms and limit.
+in_window : (pushes limit to : ℕ) (queue items : List QueuedPush) (c : Cursor) → limit ≡ to → queue ≡ items → InWindow pushes limit (map push_of queue) c → InWindow pushes to (map push_of items) c
+in_window pushes limit to queue items c e f w = subst (λ l. InWindow pushes l (map push_of items) c) e (subst (λ (r : List QueuedPush). InWindow pushes limit (map push_of r) c) f w)
 
 pub returns-then-not-seek : goal.returns-then-not-seek
 returns-then-not-seek c =
@@ -50,7 +50,7 @@ returns-then-not-seek c =
 pub overflow_add-self : goal.overflow_add-self
 overflow_add-self c =
     let items = c.deref.ensures.value in
-    let few = copies_few c.self.inside.rooms.items c.seek.new.cursor c.self.invariant.count c.self.invariant.twice in
+    let few = times_few c.self.inside.queue.items c.seek.new.cursor c.self.invariant.count c.self.invariant.twice in
     let found = (c.seek.ensures.found c.if-not-seek.false).2 in
     let same = ap (λ (r : List QueuedPush). times_heard_at (map push_of r) c.seek.new.cursor) items in
     omega arith
@@ -63,15 +63,15 @@ returns c =
     let found = c.seek.ensures.found c.if-not-seek.false in
     let within = in_window e.pushes _ (limit_of e.ended e.pushes) _ _ cursor c.limit_of-limit.ensures items c.seek.ensures.within in
     let below : cursor.number < limit_of e.ended e.pushes = subst (λ l. cursor.number < l) c.limit_of-limit.ensures found.0 in
-    let left : cursor.copy < times_heard_at e.rooms cursor = subst (λ (r : List QueuedPush). cursor.copy < times_heard_at (map push_of r) cursor) items found.2 in
-    let read = room_read c.self.inside.rooms.items cursor.place c.index.result.now c.self.invariant.count c.index.ensures in
+    let left : cursor.given < times_heard_at e.queue cursor = subst (λ (r : List QueuedPush). cursor.given < times_heard_at (map push_of r) cursor) items found.2 in
+    let read = queued_read c.self.inside.queue.items cursor.place c.index.result.now c.self.invariant.count c.index.ensures in
     let same : (seed number given : ℕ) (pushed : List (List ℕ)) → IsEtherAfter seed number pushed given e →
     position (due_in seed number e.odds) (times_in seed number e.odds) e.pushes cursor ≡ position (due_in seed number e.odds) (times_in seed number e.odds) e.pushes e.cursor =
     λ seed number given pushed f. c.seek.ensures.same _ _ (subst (λ (r : List QueuedPush). Waits (due_in seed number e.odds) (times_in seed number e.odds) e.pushes (map push_of r)) (sym items) f.waits) in
-    let few = copies_few c.self.inside.rooms.items cursor c.self.invariant.count c.self.invariant.twice in
-    let given_one : left_of (record e { cursor = record { number = cursor.number; place = cursor.place; copy = cursor.copy + 1 } }) < left_of e =
-    subst (λ l. left_at l (record { number = cursor.number; place = cursor.place; copy = cursor.copy + 1 }) < left_at l e.cursor) c.limit_of-limit.ensures (omega (arith, c.seek.ensures.fewer, left, few)) in
-    let on : Cursor = record { number = cursor.number; place = cursor.place; copy = cursor.copy + 1 } in (
+    let few = times_few c.self.inside.queue.items cursor c.self.invariant.count c.self.invariant.twice in
+    let given_one : left_of (record e { cursor = record { number = cursor.number; place = cursor.place; given = cursor.given + 1 } }) < left_of e =
+    subst (λ l. left_at l (record { number = cursor.number; place = cursor.place; given = cursor.given + 1 }) < left_at l e.cursor) c.limit_of-limit.ensures (omega (arith, c.seek.ensures.fewer, left, few)) in
+    let on : Cursor = record { number = cursor.number; place = cursor.place; given = cursor.given + 1 } in (
       (
         refl,
         λ _. tt,

@@ -26,7 +26,7 @@ fill-requires c =
 pub invariant_of-self : goal.invariant_of-self
 invariant_of-self c =
     let n = c.self.inside.pushes in
-    let items = c.self.inside.rooms.items in
+    let items = c.self.inside.queue.items in
     let small : n % 9 < 9 = mod-lt n (omega arith) in
     let room = c.index_mut-room.result.now in
     let size = c.self.invariant.sized (n % 9) room (omega (arith, c.self.invariant.count)) in
@@ -50,7 +50,7 @@ pub returns-clause-few : goal.returns-clause-few
 returns-clause-few c =
     let e : Ether = ether_in c.self.inside in
     let quiet : e.cursor.number ≡ limit_of e.ended e.pushes = subst (λ (s : Ether). s.cursor.number ≡ limit_of s.ended s.pushes) (sym c.self.view_is) c.requires.quiet in
-    few_after_push e.pushes e.ended e.rooms e.cursor (ap (λ s. s.ended) c.self.view_is ∙ c.requires.open) c.self.invariant.within quiet
+    few_after_push e.pushes e.ended e.queue e.cursor (ap (λ s. s.ended) c.self.view_is ∙ c.requires.open) c.self.invariant.within quiet
 
 pub returns-clause-follows : goal.returns-clause-follows
 returns-clause-follows c = λ seed number given pushed given_that.
@@ -61,11 +61,11 @@ returns-clause-follows c = λ seed number given pushed given_that.
     let due = c.draw-hearing.ensures.due ∙ due_drawn e.odds seed number n _ (ap (λ g. (pcg32 g).0) (left_from e.generator seed number n 2 start)) in
     let times = c.draw-hearing.ensures.times ∙ times_drawn e.odds seed number n _ _
     (ap (λ g. (pcg32 g).0) (left_from e.generator seed number n 0 start)) (ap (λ g. (pcg32 g).0) (left_from e.generator seed number n 1 start)) in
-    let rooms = map-set push_of c.self.inside.rooms.items (n % 9) c.fill.new.self ∙ ap (set e.rooms (n % 9)) c.fill.ensures.value in
+    let queue = map-set push_of c.self.inside.queue.items (n % 9) c.fill.new.self ∙ ap (set e.queue (n % 9)) c.fill.ensures.value in
     let upto : c.self.inside.cursor.number ≤ n =
     (let quiet : c.self.inside.cursor.number ≡ limit_of c.self.inside.ended n = subst (λ (s : Ether). s.cursor.number ≡ limit_of s.ended s.pushes) (sym c.self.view_is) c.requires.quiet in
     let opened : c.self.inside.ended ≡ false = ap (λ s. s.ended) c.self.view_is ∙ c.requires.open in
     let at : c.self.inside.cursor.number ≡ n = subst (λ b. c.self.inside.cursor.number ≡ limit_of b n) opened quiet in omega arith) in
-    subst (λ (r : List Push). IsEtherAfter seed number (pushed ++ c.args.bytes.now ∷ []) given (record (one_more seed number given pushed c.args.bytes.now e c.draw-hearing.result.due c.draw-hearing.result.times c.draw-hearing.new.generator) { rooms = r })) (sym rooms)
+    subst (λ (r : List Push). IsEtherAfter seed number (pushed ++ c.args.bytes.now ∷ []) given (record (one_more seed number given pushed c.args.bytes.now e c.draw-hearing.result.due c.draw-hearing.result.times c.draw-hearing.new.generator) { queue = r })) (sym queue)
     (followed seed number given pushed c.args.bytes.now e c.draw-hearing.result.due c.draw-hearing.result.times c.draw-hearing.new.generator
-    f (length-map c.self.inside.rooms.items push_of ∙ c.self.invariant.count) upto due times c.draw-hearing.ensures.after)
+    f (length-map c.self.inside.queue.items push_of ∙ c.self.invariant.count) upto due times c.draw-hearing.ensures.after)

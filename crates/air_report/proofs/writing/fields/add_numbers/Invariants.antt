@@ -1,7 +1,7 @@
 use Rattle.std.proofs.Common.{◌∷◌, map, take}
 use Rattle.air_base.specs.Numbers.{number_text}
 use Rattle.air_report.specs.RowWriters.{written_text}
-use Rattle.air_report.specs.BegunRows.{IsBegun}
+use Rattle.air_report.specs.Private.BegunRows.{IsBegun}
 use Rattle.air_report.proofs.writing.fields.add_numbers.Given as goal
 
 abbrev pub invariant-loop-n : goal.invariant-loop-n

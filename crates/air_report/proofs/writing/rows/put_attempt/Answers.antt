@@ -2,7 +2,7 @@ use Rattle.std.proofs.Common.{◌∷◌, [], ◌++◌, ◌∙◌, map, ap, subst
 use Rattle.air_base.specs.Numbers.{number_text}
 use Rattle.air_base.specs.NumberLists.{list_text}
 use Rattle.air_model.specs.Reports.{read_text}
-use Rattle.air_report.specs.BegunRows.{IsBegun}
+use Rattle.air_report.specs.Private.BegunRows.{IsBegun}
 use Rattle.air_report.specs.RowWriters.{written_text}
 use Rattle.air_report.proofs.RowSteps.{none_yet}
 use Rattle.air_report.proofs.writing.rows.put_attempt.Goals as goal

@@ -1,11 +1,11 @@
 use Rattle.std.proofs.Common.{codes, sym, subst, arith}
 use Rattle.air_model.specs.Reports.{attempt_row, kind_row, verdict_row}
-use Rattle.air_report.specs.BegunRows.{IsBegun}
+use Rattle.air_report.specs.Private.BegunRows.{IsBegun}
 use Rattle.air_report.specs.RowWriters.{written_text}
 use Rattle.air_report.proofs.writing.rows.put_verdict.Goals as goal
 use Rattle.air_report.proofs.writing.rows.put_verdict.Goals.{in-Accept+in_ok-put_attempt-in-Accept, in-Abort+in_ok-put_attempt-in-Abort+in_ok-put_clash-in-Abort, in-Aged+in_ok-put_attempt-in-Aged+in_ok-put_place-in-Aged, in-Unfinished+in_ok-put_attempt-in-Unfinished}
 
--- Before the row ends all its fields stand there.
+-- Before the row ends, it has all its fields.
 begun : (c : goal.In_ok-end_row) → IsBegun (written_text c.args.wtr.now) (verdict_row c.args.line.now) c.match-line.wtr
 begun c =
     let before = written_text c.args.wtr.now in

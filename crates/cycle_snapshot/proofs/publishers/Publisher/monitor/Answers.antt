@@ -14,7 +14,7 @@ invariant_of-result c =
     let two = c.again-2.ensures ∙ sym v.list in
     let kept : c.in_ok-kept.kept ≡ frame_of x.values (batch_events x.list.batches) = c.in_ok-kept.ensures x.values (batch_events x.list.batches) (ap (λ y. y.board) c.published.ensures ∙ v.shown.board) in
     record {
-      copy = x;
+      side = x;
       is = c.in_ok-reader.ensures.reader ∙ v.sees;
       seen_of = ap (λ l. l.publisher) one;
       seen_begins = subst (λ (l : Beginning). IsPrefix l.batches x.list.batches) (sym one) (prefix_self x.list.batches);

@@ -6,13 +6,13 @@ use Rattle.air_history.specs.Histories.{starts}
 use Rattle.air_model.specs.Aired.{Air}
 use Rattle.chunk_program.specs.Editions.{Plans}
 use Rattle.cycle_snapshot.specs.Batches.{batch_events}
-use Rattle.deck_runs.specs.Sendings.{CanAirIn, IsAirOf, IsCause, SendsCycles}
+use Rattle.deck_runs.specs.Sendings.{CanAirIn, IsAirOf, IsFailure, SendsCycles}
 use Rattle.deck_runs.specs.Private.CycleSteps.{SendsCounted, SendsInCycle}
 use Rattle.deck_runs.proofs.CycleLemmas.{board_seen, goes_further, goes_nowhere, on_most, on_station, on_values, publishes_further, publishes_none}
 use Rattle.deck_runs.proofs.SendLemmas.{counts_further, counts_none, ends_by, seen_bytes, seen_starts, sends_as}
 use Rattle.deck_runs.proofs.jobs.conductors.conductor_job.Goals as goal
 
--- What is true of a form and plans is true of them told otherwise.
+-- What holds of a form and plans holds of equal ones.
 told_as : (P : Form → Plans → Type 0) (form told : Form) (plans other : Plans) → told ≡ form → other ≡ plans → P form plans → P told other
 told_as P form told plans other same also h = subst (P told) (sym also) (subst (λ f. P f plans) (sym same) h)
 
@@ -136,7 +136,7 @@ returns-in_err-slots-clause-aired g c = rw (same_fault _ _ c.from_residual.ensur
     c.requires.step.published c.in_err-slots.ensures.published (cycle air told))
 
 pub returns-in_err-slots-clause-cause : goal.returns-in_err-slots-clause-cause
-returns-in_err-slots-clause-cause g c = rw (same_fault _ _ c.from_residual.ensures.1) (subst (λ n. IsCause n (g.M.Mast.state c.conduct_cycle.new.mast).faults c.in_err-slots.field-0.0) c.loop-k.invariant.calm c.in_err-slots.ensures.cause)
+returns-in_err-slots-clause-cause g c = rw (same_fault _ _ c.from_residual.ensures.1) (subst (λ n. IsFailure n (g.M.Mast.state c.conduct_cycle.new.mast).faults c.in_err-slots.field-0.0) c.loop-k.invariant.calm c.in_err-slots.ensures.cause)
 
 pub returns : goal.returns
 returns g c =

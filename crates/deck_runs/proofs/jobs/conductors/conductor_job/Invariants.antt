@@ -7,7 +7,7 @@ use Rattle.deck_runs.specs.Sendings.{IsAirOf}
 use Rattle.deck_runs.specs.Private.CycleSteps.{SendsCounted}
 use Rattle.deck_runs.proofs.jobs.conductors.conductor_job.Given as goal
 
--- So many cycles were conducted, and sent so many buckets.
+-- The number of cycles conducted so far, and the number of buckets sent in them.
 abbrev pub invariant-loop-k : goal.invariant-loop-k
 invariant-loop-k g l = record {
   pass : GoesOn l.initial.pass l.pass;

@@ -7,7 +7,7 @@ use Rattle.cycle_snapshot.proofs.BatchLemmas.{batch_starts}
 use Rattle.deck_runs.specs.PublishedBatches.{IsUpTo}
 use Rattle.air_sender.specs.BoardBuckets.{EntriesBelow}
 use Rattle.deck_runs.proofs.CycleLemmas.{at_fault, board_ahead, board_cycle, board_kept, board_seen, board_sized, in_step}
-use Rattle.deck_runs.proofs.SendLemmas.{front, last, started}
+use Rattle.deck_runs.proofs.SendLemmas.{beginning, last, started}
 use Rattle.cycle_snapshot.specs.Batches.{batch_events}
 use Rattle.deck_runs.proofs.jobs.cycles.begin_cycle.Goals as goal
 
@@ -69,7 +69,7 @@ returns-clause-below g c =
     let h = c.publish.new.self in
     let board = c.apply_all.new.board in
     let on = c.start_fresh.ensures.on in
-    subst EntriesBelow (sym (last p q f h board on b.0 b.1)) (c.below_law.ensures p.values (front p q f h board on b.0 b.1))
+    subst EntriesBelow (sym (last p q f h board on b.0 b.1)) (c.below_law.ensures p.values (beginning p q f h board on b.0 b.1))
 
 pub returns-clause-sized : goal.returns-clause-sized
 returns-clause-sized g c =

@@ -4,7 +4,7 @@ use Rattle.air_model.specs.Programs.{program as slots_of}
 use Rattle.chunk_program.specs.Editions.{planned_edition}
 use Rattle.deck_runs.specs.PublishedBatches.{PublishesOn}
 use Rattle.deck_runs.proofs.CycleLemmas.{at_fault, few_starts, one_start, publishes_batch, publishes_none}
-use Rattle.deck_runs.proofs.SendLemmas.{cycle_failed_by, cycle_sent, front, last_board, rose_by, within_cycle}
+use Rattle.deck_runs.proofs.SendLemmas.{beginning, cycle_failed_by, cycle_sent, last_board, rose_by, within_cycle}
 use Rattle.deck_runs.proofs.jobs.cycles.conduct_cycle.Goals as goal
 
 pub returns-in-Ok-clause-aired : goal.returns-in-Ok-clause-aired
@@ -21,7 +21,7 @@ returns-in-Ok-clause-aired g c = λ air is.
     let own = c.in_force-program.result.now in
     let at = subst (λ n. slice_get plans.programs (planned_edition plans n) ≡ Some own) c.cycle.ensures.found c.in_force-program.ensures.told in
     cycle_sent p q f h board on b.0 b.1 air form plans own is at c.slots-slots.result _ _ c.slots-slots.ensures.counted
-    (c.in-Ok.ensures.history p.values air (front p q f h board on b.0 b.1) (last_board p q f h board on b.0 b.1 air form plans own is at))
+    (c.in-Ok.ensures.history p.values air (beginning p q f h board on b.0 b.1) (last_board p q f h board on b.0 b.1 air form plans own is at))
 
 pub air_cycle-requires-clause-items : goal.air_cycle-requires-clause-items
 air_cycle-requires-clause-items g c =
@@ -53,7 +53,7 @@ returns-in-Err-clause-aired g c = λ air is.
       c.from-slot.result,
       refl,
       cycle_failed_by p q f h board on b.0 b.1 air form plans own is at g.M.Mast.state _ c.from-slot.result c.args.mast.now c.air_cycle.new.mast (c.from-slot.ensures ∙ c.slot_of.ensures)
-          (c.in-Err.ensures.history p.values air (front p q f h board on b.0 b.1) (last_board p q f h board on b.0 b.1 air form plans own is at)) c.in-Err.ensures.fault,
+          (c.in-Err.ensures.history p.values air (beginning p q f h board on b.0 b.1) (last_board p q f h board on b.0 b.1 air form plans own is at)) c.in-Err.ensures.fault,
     )
 
 pub returns-in-Err-clause-few : goal.returns-in-Err-clause-few

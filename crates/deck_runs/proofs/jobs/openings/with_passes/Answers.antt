@@ -1,7 +1,7 @@
 use Rattle.std.proofs.Common.{◌≡◌, [], ◌∷◌, ◌++◌, length, sym, ap, ◌∙◌, arith, append_assoc}
 use Rattle.std.proofs.lemmas.List.{map-append}
 use Rattle.std.specs.Vec.Iter.{into_iter_items}
-use Rattle.deck_runs.specs.Crews.{passes_of}
+use Rattle.deck_runs.specs.Private.Crews.{passes_of}
 use Rattle.deck_runs.proofs.jobs.openings.with_passes.Goals as goal
 
 pub loop-pass-preserved : goal.loop-pass-preserved

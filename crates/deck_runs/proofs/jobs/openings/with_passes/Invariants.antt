@@ -1,6 +1,6 @@
 use Rattle.std.proofs.Common.{◌≡◌, ◌++◌, length}
 use Rattle.std.specs.Vec.Iter.{into_iter_items, into_iter_len}
-use Rattle.deck_runs.specs.Crews.{passes_of}
+use Rattle.deck_runs.specs.Private.Crews.{passes_of}
 use Rattle.deck_runs.proofs.jobs.openings.with_passes.Given as goal
 
 abbrev pub invariant-loop-pass : goal.invariant-loop-pass

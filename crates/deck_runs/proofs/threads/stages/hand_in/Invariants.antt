@@ -1,6 +1,6 @@
 use Rattle.std.proofs.Common.{◌≡◌, ◌≤◌, ◌++◌, length, vec_capacity}
 use Rattle.std.specs.Vec.Iter.{into_iter_items, into_iter_len}
-use Rattle.deck_runs.specs.Crews.{passes_of}
+use Rattle.deck_runs.specs.Private.Crews.{passes_of}
 use Rattle.deck_runs.proofs.threads.stages.hand_in.Given as goal
 
 abbrev pub invariant-loop-run : goal.invariant-loop-run

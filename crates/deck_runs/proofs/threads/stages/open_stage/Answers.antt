@@ -1,6 +1,6 @@
 use Rattle.std.proofs.Common.{◌∙◌, All, length, refl, sym, ap, subst, arith}
 use Rattle.station.specs.PassStates.{new_pass}
-use Rattle.deck_runs.specs.Crews.{HasNewPass}
+use Rattle.deck_runs.specs.Private.Crews.{HasNewPass}
 use Rattle.deck_runs.specs.Private.StageSteps.{AreNewUpdaters}
 use Rattle.deck_runs.proofs.StageLemmas.{all_ready, can_conduct, new_updaters}
 use Rattle.deck_runs.proofs.threads.stages.open_stage.Goals as goal

@@ -1,7 +1,7 @@
 use Rattle.std.proofs.Common.{◌+◌, ◌∙◌, ◌∷◌, [], Some, ap, arith, length, get_or, sym}
 use Rattle.std.proofs.Common.{length-append}
 use Rattle.std.proofs.lemmas.List.{length-set}
-use Rattle.air_model.specs.Decks.{count_parts}
+use Rattle.air_model.specs.Decks.{scripted_commits}
 use Rattle.item_catalog.specs.Faults.{count_starts}
 use Rattle.item_catalog.proofs.ScriptLemmas.{commit_fits, commits_more, starts_all}
 use Rattle.item_catalog.proofs.scripts.Script.commit.Goals as goal
@@ -15,5 +15,5 @@ invariant_of-self-2 c =
       starts = inv.starts ∙ sym (ap count_starts items ∙ starts_all script (Some by ∷ []) ∙ omega arith);
       few_starts = inv.few_starts;
       updaters = length-set c.self.inside.commits by (get_or c.self.inside.commits by 0 + 1) ∙ inv.updaters;
-      commits = λ k below. commits_more c.self.inside.commits script by k (omega (arith, fits.0, inv.updaters)) (inv.commits k below) (inv.commits by fits.0) ∙ sym (ap (count_parts k) items);
+      commits = λ k below. commits_more c.self.inside.commits script by k (omega (arith, fits.0, inv.updaters)) (inv.commits k below) (inv.commits by fits.0) ∙ sym (ap (scripted_commits k) items);
     }

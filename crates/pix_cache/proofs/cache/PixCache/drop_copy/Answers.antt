@@ -12,9 +12,9 @@ pub put-requires : goal.put-requires
 put-requires c =
     let places = c.self.inside.places.items in
     let here = within c.self.inside c.self.invariant c.args.self.now c.self.view_is c.args.item c.requires in
-    let some = read_place places c.args.item c.index.result.now (Some c.in-Some.slot) here c.index.ensures c.in-Some.is in
-    let l = c.self.invariant.agree.within c.args.item c.in-Some.slot here some in
-    let slot = ap (λ (x : Leaf). x.slot) c.empty.ensures in
+    let some = read_place places c.args.item c.index.result.now (Some c.in-Some.copy_slot) here c.index.ensures c.in-Some.is in
+    let l = c.self.invariant.agree.within c.args.item c.in-Some.copy_slot here some in
+    let copy_slot = ap (λ (x : Leaf). x.copy_slot) c.empty.ensures in
     omega arith
 
 pub invariant_of-self : goal.invariant_of-self
@@ -22,17 +22,17 @@ invariant_of-self c =
     let places = c.self.inside.places.items in
     let tree = c.self.inside.tree in
     let here = within c.self.inside c.self.invariant c.args.self.now c.self.view_is c.args.item c.requires in
-    let some = read_place places c.args.item c.index.result.now (Some c.in-Some.slot) here c.index.ensures c.in-Some.is in
-    let l = c.self.invariant.agree.within c.args.item c.in-Some.slot here some in
-    let put : c.put.new.self ≡ set tree c.in-Some.slot (empty_leaf c.in-Some.slot) = c.put.ensures ∙ ap (λ (x : Leaf). set tree x.slot x) c.empty.ensures in
+    let some = read_place places c.args.item c.index.result.now (Some c.in-Some.copy_slot) here c.index.ensures c.in-Some.is in
+    let l = c.self.invariant.agree.within c.args.item c.in-Some.copy_slot here some in
+    let put : c.put.new.self ≡ set tree c.in-Some.copy_slot (empty_leaf c.in-Some.copy_slot) = c.put.ensures ∙ ap (λ (x : Leaf). set tree x.copy_slot x) c.empty.ensures in
     record {
       few = c.self.invariant.few;
       many = c.self.invariant.many;
       items = length-set places c.args.item None ∙ c.self.invariant.items;
       width = c.self.invariant.width;
-      rooms = ap length put ∙ length-set tree c.in-Some.slot (empty_leaf c.in-Some.slot) ∙ c.self.invariant.rooms;
+      copy_slots = ap length put ∙ length-set tree c.in-Some.copy_slot (empty_leaf c.in-Some.copy_slot) ∙ c.self.invariant.copy_slots;
       agree = subst (Agree c.self.inside.pix.items (set places c.args.item None)) (sym put)
-          (agree_drop c.self.inside.pix.items places tree c.args.item c.in-Some.slot c.self.invariant.agree here l some);
+          (agree_drop c.self.inside.pix.items places tree c.args.item c.in-Some.copy_slot c.self.invariant.agree here l some);
     }
 
 pub returns-in-Some : goal.returns-in-Some

@@ -14,11 +14,11 @@ invariant_of-result c =
     let empty : (i : ℕ) → i < length c.in_ok-vec.field-0.items → get_or c.in_ok-vec.field-0.items i None ≡ None = λ i l.
     ap (λ p. get_or p i None) places ∙ get_or-replicate (length c.args.pix.now) i None None (omega (arith, ap length places, length-replicate {A = Option ℕ} (length c.args.pix.now) None)) in
     record {
-      few = omega (arith, c.in_ok-new.ensures.rooms, c.requires.room);
+      few = omega (arith, c.in_ok-new.ensures.copy_slots, c.requires.room);
       many = omega (arith, ap length pix, c.requires.items);
       items = ap length places ∙ length-replicate {A = Option ℕ} (length c.args.pix.now) None ∙ sym (ap length pix);
       width = c.in_ok-new.ensures.width ∙ sym (ap length pix);
-      rooms = c.in_ok-new-2.ensures.rooms ∙ sym c.in_ok-new.ensures.rooms;
+      copy_slots = c.in_ok-new-2.ensures.copy_slots ∙ sym c.in_ok-new.ensures.copy_slots;
       agree = agree_none c.in_ok-to_vec.field-0.items c.in_ok-vec.field-0.items c.in_ok-new-2.field-0 empty c.in_ok-new-2.ensures.none;
     }
 
@@ -30,6 +30,6 @@ returns c =
     let empty : (i : ℕ) → i < length c.in_ok-vec.field-0.items → get_or c.in_ok-vec.field-0.items i None ≡ None = λ i l.
     ap (λ p. get_or p i None) places ∙ get_or-replicate (length c.args.pix.now) i None None (omega (arith, ap length places, length-replicate {A = Option ℕ} (length c.args.pix.now) None)) in
     let none = none_at_all stores c.in_ok-vec.field-0.items empty in
-    ap {B = Cache} (λ (n : ℕ). record { room = n; pix = c.in_ok-to_vec.field-0.items; copies = somes (copies_in_store stores c.in_ok-vec.field-0.items) }) c.in_ok-new.ensures.rooms
+    ap {B = Cache} (λ (n : ℕ). record { room = n; pix = c.in_ok-to_vec.field-0.items; copies = somes (copies_in_store stores c.in_ok-vec.field-0.items) }) c.in_ok-new.ensures.copy_slots
     ∙ ap {B = Cache} (λ (p : List ℕ). record { room = c.args.room; pix = p; copies = somes (copies_in_store stores c.in_ok-vec.field-0.items) }) pix
     ∙ ap {B = Cache} (λ (r : List Read). record { room = c.args.room; pix = c.args.pix.now; copies = r }) none

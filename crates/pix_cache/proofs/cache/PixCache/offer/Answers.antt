@@ -5,27 +5,27 @@ use Rattle.std.proofs.lemmas.List.{get_or_default, with_items_is}
 use Rattle.pix_cache.specs.Stores.{Store, StoredCopy, stored_copy}
 use Rattle.pix_cache.specs.Leaves.{copy_leaf}
 use Rattle.pix_cache.proofs.CacheLemmas.{read_place}
-use Rattle.pix_cache.proofs.FieldLemmas.{decline_answer, decline_form, has_copy, in_rooms, replace_form, take_agree, take_answer, take_form, within}
+use Rattle.pix_cache.proofs.FieldLemmas.{decline_answer, decline_form, has_copy, in_copy_slots, replace_form, take_agree, take_answer, take_form, within}
 use Rattle.pix_cache.proofs.OtherLemmas.{stays_behind, stays_beside}
 use Rattle.pix_cache.proofs.cache.PixCache.offer.Goals as goal
 
 pub put-requires-clause-within : goal.put-requires-clause-within
 put-requires-clause-within c =
     let here = within c.self.inside c.self.invariant c.args.self.now c.self.view_is c.args.item c.requires.item in
-    let some = read_place c.self.inside.places.items c.args.item c.index.result.now (Some c.in-Some.slot) here c.index.ensures c.in-Some.is in
-    in_rooms c.self.inside c.self.invariant c.args.self.now c.self.view_is c.args.item c.requires.item c.in-Some.slot some
+    let some = read_place c.self.inside.places.items c.args.item c.index.result.now (Some c.in-Some.copy_slot) here c.index.ensures c.in-Some.is in
+    in_copy_slots c.self.inside c.self.invariant c.args.self.now c.self.view_is c.args.item c.requires.item c.in-Some.copy_slot some
 
 pub returns-in-Some-clause-kept : goal.returns-in-Some-clause-kept
 returns-in-Some-clause-kept c =
     let here = within c.self.inside c.self.invariant c.args.self.now c.self.view_is c.args.item c.requires.item in
-    let some = read_place c.self.inside.places.items c.args.item c.index.result.now (Some c.in-Some.slot) here c.index.ensures c.in-Some.is in
-    replace_form c.self.inside c.self.invariant c.args.self.now c.self.view_is c.args.item c.requires.item (stored_copy c.args.cycle c.args.value c.args.column.now) c.in-Some.slot some c.put.new.self.stores (ap (λ (s : Store). s.stores) c.put.ensures)
+    let some = read_place c.self.inside.places.items c.args.item c.index.result.now (Some c.in-Some.copy_slot) here c.index.ensures c.in-Some.is in
+    replace_form c.self.inside c.self.invariant c.args.self.now c.self.view_is c.args.item c.requires.item (stored_copy c.args.cycle c.args.value c.args.column.now) c.in-Some.copy_slot some c.put.new.self.stores (ap (λ (s : Store). s.stores) c.put.ensures)
 
 pub returns-in-Some-clause-answer : goal.returns-in-Some-clause-answer
 returns-in-Some-clause-answer c =
     let here = within c.self.inside c.self.invariant c.args.self.now c.self.view_is c.args.item c.requires.item in
-    let some = read_place c.self.inside.places.items c.args.item c.index.result.now (Some c.in-Some.slot) here c.index.ensures c.in-Some.is in
-    ap is_some (has_copy c.self.inside c.self.invariant c.args.self.now c.self.view_is c.args.item c.requires.item c.in-Some.slot some)
+    let some = read_place c.self.inside.places.items c.args.item c.index.result.now (Some c.in-Some.copy_slot) here c.index.ensures c.in-Some.is in
+    ap is_some (has_copy c.self.inside c.self.invariant c.args.self.now c.self.view_is c.args.item c.requires.item c.in-Some.copy_slot some)
 
 pub returns-in_default-room_for-clause-kept : goal.returns-in_default-room_for-clause-kept
 returns-in_default-room_for-clause-kept c =
@@ -58,13 +58,13 @@ invariant_of-self-2 c =
     let items = with_items_is c.self.inside.places c.leave.new.places (long ∙ sym c.self.inside.places.ok.0) in
     let left = items ∙ c.leave.ensures ∙ ap (λ (p : List (Option ℕ)). if r.kept then set p r.item None else p) lent in
     let put = ap (λ (s : Store). s.stores) c.put-2.ensures in
-    let leaf = copy_leaf r.slot c.index-pix.result.now c.args.item in
+    let leaf = copy_leaf r.copy_slot c.index-pix.result.now c.args.item in
     record {
-      few = omega (arith, ap length put, length-set stores r.slot st, c.self.invariant.few);
+      few = omega (arith, ap length put, length-set stores r.copy_slot st, c.self.invariant.few);
       many = c.self.invariant.many;
-      items = length-set _ c.args.item (Some r.slot) ∙ ap length items ∙ long ∙ c.self.invariant.items;
+      items = length-set _ c.args.item (Some r.copy_slot) ∙ ap length items ∙ long ∙ c.self.invariant.items;
       width = ap (λ (s : Store). s.width) c.put-2.ensures ∙ c.self.invariant.width;
-      rooms = ap length c.put-3.ensures ∙ length-set tree r.slot leaf ∙ c.self.invariant.rooms ∙ sym (ap length put ∙ length-set stores r.slot st);
+      copy_slots = ap length c.put-3.ensures ∙ length-set tree r.copy_slot leaf ∙ c.self.invariant.copy_slots ∙ sym (ap length put ∙ length-set stores r.copy_slot st);
       agree = take_agree c.self.inside c.self.invariant c.args.self.now c.self.view_is c.args.item c.requires.item st none c.index-pix.result.now number r room.0 room.1 room.2 room.3 _ left c.put-3.new.self c.put-3.ensures;
     }
 
@@ -98,8 +98,8 @@ returns-clause-answer c =
 pub returns-in-Some-clause-others : goal.returns-in-Some-clause-others
 returns-in-Some-clause-others c = λ other asked ne answer.
     let here = within c.self.inside c.self.invariant c.args.self.now c.self.view_is c.args.item c.requires.item in
-    let some = read_place c.self.inside.places.items c.args.item c.index.result.now (Some c.in-Some.slot) here c.index.ensures c.in-Some.is in
-    stays_beside c.self.inside c.self.invariant c.args.self.now c.self.view_is other asked c.args.item c.requires.item c.in-Some.slot some (stored_copy c.args.cycle c.args.value c.args.column.now)
+    let some = read_place c.self.inside.places.items c.args.item c.index.result.now (Some c.in-Some.copy_slot) here c.index.ensures c.in-Some.is in
+    stays_beside c.self.inside c.self.invariant c.args.self.now c.self.view_is other asked c.args.item c.requires.item c.in-Some.copy_slot some (stored_copy c.args.cycle c.args.value c.args.column.now)
     c.put.new.self.stores (ap (λ (s : Store). s.stores) c.put.ensures) ne
 
 pub returns-clause-others : goal.returns-clause-others

@@ -19,6 +19,6 @@ invariant_of-self c =
       many = omega (arith, c.self.invariant.many);
       items = c.self.invariant.items ∙ sym wide;
       width = c.self.invariant.width ∙ sym wide;
-      rooms = ap length put ∙ length-map tree (renumbered_leaf new) ∙ c.self.invariant.rooms;
+      copy_slots = ap length put ∙ length-map tree (renumbered_leaf new) ∙ c.self.invariant.copy_slots;
       agree = subst (Agree new c.self.inside.places.items) (sym put) (agree_reordered old new c.self.inside.places.items tree c.self.invariant.agree);
     }

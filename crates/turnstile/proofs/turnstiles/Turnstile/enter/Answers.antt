@@ -12,7 +12,7 @@ fetch_add-ticket-requires g c =
     let two = c.self.invariant.0 in
     let noted = ap (λ p. p.turn) c.pass.view_is ∙ c.requires.outside in
     let o = rests_outside _ s noted in
-    (ap (λ p. p.gate) c.pass.view_is ∙ (c.requires.own ∙ sym c.self.view_is), omega arith, takes _ _ _ _ _ o.0 s.live s.calm noted)
+    (ap (λ p. p.turnstile) c.pass.view_is ∙ (c.requires.own ∙ sym c.self.view_is), omega arith, takes _ _ _ _ _ o.0 s.live s.calm noted)
 
 pub load-served-requires : goal.load-served-requires
 load-served-requires g c =
@@ -21,7 +21,7 @@ load-served-requires g c =
     let o = rests_outside _ c.pass.invariant noted in
     let e = c.fetch_add-ticket.ensures in
     let i = c.loop.invariant in (
-      i.0 ∙ (e.0 ∙ (ap (λ p. p.gate) c.pass.view_is ∙ (c.requires.own ∙ sym c.self.view_is))),
+      i.0 ∙ (e.0 ∙ (ap (λ p. p.turnstile) c.pass.view_is ∙ (c.requires.own ∙ sym c.self.view_is))),
       omega arith,
       serves _ _ _ _ _ (ap (λ m. m.1) i.1 ∙ (ap (λ m. m.1) e.2 ∙ o.1)) (ap (λ m. m.0.noted) i.1 ∙ (ap (λ m. m.0.noted) e.2 ∙ noted)),
     )
@@ -34,7 +34,7 @@ exchange-requires g c =
     let i = c.loop.invariant in
     let l = c.load-served.ensures in
     let o = enters g.K.Chronicle.entries g.K.Chronicle.base c.pass.inside.seat.me c.fetch_add-ticket.new.seat.me c.loop.pass-inside.seat.me c.load-served.new.seat.me c.fetch_add-ticket.result c.load-served.result e.2 i.1 l.2 c.if-served-ticket.true in (
-      l.0 ∙ (i.0 ∙ (e.0 ∙ (ap (λ p. p.gate) c.pass.view_is ∙ (c.requires.own ∙ sym c.self.view_is)))),
+      l.0 ∙ (i.0 ∙ (e.0 ∙ (ap (λ p. p.turnstile) c.pass.view_is ∙ (c.requires.own ∙ sym c.self.view_is)))),
       (Some o.0, slot_held g.K.Chronicle.entries g.K.Chronicle.base c.pass.inside.seat.me c.load-served.new.seat.me c.fetch_add-ticket.result o.0 o.1),
     )
 

@@ -13,8 +13,8 @@ join_seat-requires g c =
     let noted' = ap (λ p. p.turn) c.other.view_is ∙ c.requires.outside.1 in
     let o = rests_outside _ c.pass.invariant noted in
     let o' = rests_outside _ c.other.invariant noted' in (
-      ap (λ p. p.gate) c.pass.view_is ∙ (c.requires.own.0 ∙ sym c.self.view_is),
-      ap (λ p. p.gate) c.other.view_is ∙ (c.requires.own.1 ∙ sym c.self.view_is),
+      ap (λ p. p.turnstile) c.pass.view_is ∙ (c.requires.own.0 ∙ sym c.self.view_is),
+      ap (λ p. p.turnstile) c.other.view_is ∙ (c.requires.own.1 ∙ sym c.self.view_is),
       o'.1,
       omega arith,
       joins _ _ _ _ _ _ o.0 noted c.pass.invariant.live o'.0 noted',
@@ -25,7 +25,7 @@ load-requires g c =
     let two = c.self.invariant.0 in
     let noted = ap (λ p. p.turn) c.pass.view_is ∙ c.requires.outside.0 in
     let e = c.join_seat.ensures in (
-      e.0 ∙ (ap (λ p. p.gate) c.pass.view_is ∙ (c.requires.own.0 ∙ sym c.self.view_is)),
+      e.0 ∙ (ap (λ p. p.turnstile) c.pass.view_is ∙ (c.requires.own.0 ∙ sym c.self.view_is)),
       omega arith,
       compares _ _ _ _ _ (ap (λ m. m.0.noted) e.2 ∙ noted),
     )

@@ -13,7 +13,7 @@ fetch_add-requires g c =
     let m = subst (λ o. IfSome o (λ given. Lengthens c.args.pass.now.numbers given (g.K.Chronicle.entries c.args.turn.value))) t.1 c.requires.list in
     let own = subst (λ p. Lengthens p.numbers t.0 (g.K.Chronicle.entries c.args.turn.value)) (sym c.pass.view_is) m in
     let e = c.exchange-away.ensures in (
-      e.0 ∙ (ap (λ p. p.gate) c.pass.view_is ∙ (c.requires.own ∙ sym c.self.view_is)),
+      e.0 ∙ (ap (λ p. p.turnstile) c.pass.view_is ∙ (c.requires.own ∙ sym c.self.view_is)),
       omega arith,
       leaves_filled _ _ _ _ _ _ _ _ own.0 e.3 (holds_inside _ _ c.pass.invariant noted) noted own.1 own.2 (ap (λ p. p.base) c.pass.view_is ∙ c.requires.base),
     )

@@ -5,7 +5,7 @@ use Rattle.air_cli.proofs.PlanLemmas.{held_item}
 use Rattle.air_cli.proofs.commands.plan.rows.put_item.Goals as goal
 
 pub disk_of-requires : goal.disk_of-requires
-disk_of-requires c = held_item c.args.planned.now c.args.edition c.args.cut.now c.args.i c.program-program.ensures.items c.requires.cut c.requires.item
+disk_of-requires c = held_item c.args.planned.now c.args.edition c.program-program.result.now.disks c.args.i c.program-program.ensures.items (ap (λ (p : EditionDisks). p.disks) c.program-program.ensures.told) c.requires.item
 
 pub times-requires : goal.times-requires
 times-requires c = held_item c.args.planned.now c.args.edition c.program-program.result.now.disks c.args.i c.program-program.ensures.items (ap (λ (p : EditionDisks). p.disks) c.program-program.ensures.told) c.requires.item

@@ -18,5 +18,5 @@ returns-clause-heard c =
     let next = next_bytes c.self.inside.heard.items c.deref.result.now c.self.inside.at c.in-Some.bytes.now c.deref-2.result.now c.deref.ensures.value c.in-Some.ensures.lookup.0 c.in-Some.ensures.lookup.1 c.deref-2.ensures.value in (
       c.fill-count.ensures.some,
       c.fill-count.ensures.within,
-      takes_first c.args.self.now.waiting _ c.deref-2.result.now _ (sym (ap (λ e. e.waiting) c.self.view_is) ∙ next) c.fill-count.ensures.front,
+      takes_first c.args.self.now.waiting _ c.deref-2.result.now _ (sym (ap (λ e. e.waiting) c.self.view_is) ∙ next) c.fill-count.ensures.beginning,
     )

@@ -1,6 +1,6 @@
 use Rattle.std.proofs.Common.{◌∙◌, ◌+◌, refl, sym, arith}
 use Rattle.air_devices.proofs.CallLemmas.{is_next_call, keeps_but_left}
-use Rattle.air_devices.proofs.MemoryLemmas.{file_moved, front_taken, nothing_left}
+use Rattle.air_devices.proofs.MemoryLemmas.{beginning_taken, file_moved, nothing_left}
 use Rattle.air_devices.proofs.memory.shelf.MemShelfShelf.read.Goals as goal
 
 pub returns-in_default-clause-moved : goal.returns-in_default-clause-moved
@@ -12,8 +12,8 @@ returns-clause-moved c =
     let count = c.move_beginning-count.result in
     let moved = file_moved c.args.self.now.files.items c.in-Some.place (d.at + count) d c.args.name.now (sym c.file_place.ensures ∙ c.in-Some.is) c.index_mut-file.ensures.value in
     let size = rw c.deref.ensures.value at c.move_beginning-count.ensures.count in
-    let front = rw c.deref.ensures.value at c.move_beginning-count.ensures.front in
-    let taken = front_taken c.args.self.now.files.items _ d count c.args.name.now c.move_beginning-count.new.buf moved (omega arith) front in
+    let beginning = rw c.deref.ensures.value at c.move_beginning-count.ensures.beginning in
+    let taken = beginning_taken c.args.self.now.files.items _ d count c.args.name.now c.move_beginning-count.new.buf moved (omega arith) beginning in
     (taken.bytes, taken.end)
 
 pub returns-clause-call : goal.returns-clause-call

@@ -1,7 +1,7 @@
 use Rattle.std.proofs.Common.{◌<◌, ◌∙◌, length, sym, ap, subst}
 use Rattle.air_model.specs.Decks.{Deck, updates_by}
 use Rattle.station.specs.PassStates.{PassState}
-use Rattle.deck_runs.specs.Crews.{HasMadeUpdates, HasNewPass}
+use Rattle.deck_runs.specs.Private.Crews.{HasMadeUpdates, HasNewPass}
 use Rattle.deck_runs.proofs.CrewLemmas.{few_at, makes_from, makes_some_from, updates_fit}
 use Rattle.deck_runs.proofs.jobs.crews.UpdaterRun.work.Goals as goal
 

@@ -3,7 +3,7 @@ use Rattle.csv.specs.Records.{fields_of}
 use Rattle.air_base.specs.declared.limits.TheConstants.{MOST_UPDATERS}
 use Rattle.air_base.specs.NumberLists.{list_of}
 use Rattle.air_history.specs.UpdateLists.{UpdateLists}
-use Rattle.air_model.specs.Decks.{count_parts}
+use Rattle.air_model.specs.Decks.{scripted_commits}
 use Rattle.item_catalog.specs.RecordKinds.{with_spelled}
 use Rattle.item_catalog.specs.Private.Drafts.{DraftValue, record_kind, with_declaration}
 use Rattle.item_catalog.specs.Declarations as e
@@ -16,13 +16,13 @@ use Rattle.item_catalog.proofs.DeclarationLemmas.{events_are, script_spelled}
 use Rattle.item_catalog.proofs.deck.draft.Draft.add_events.Goals as goal
 use Rattle.item_catalog.proofs.deck.draft.Draft.add_events.Goals.{After-overdraws}
 
--- The events that were read, with which no limit is passed, and what the counts say of them.
+-- The events that were read, which pass no limit, and what the counts say of them.
 record Events (c : After-overdraws) : Type 0 where
   events : List (Option ℕ)
   spelled : script_by (one_of (drop 1 (fields_of c.args.fields.now))) ≡ Ok (e.DeclaredScript events)
   within : script_passes c.args.self.now.script events ≡ false
   added : c.read.new.self ≡ c.args.self.now.script ++ events
-  told : c.overdraws.result ≡ some_below MOST_UPDATERS (λ by. nat_lt (length (get_or c.args.self.now.updates by [])) (count_parts by (c.args.self.now.script ++ events)))
+  told : c.overdraws.result ≡ some_below MOST_UPDATERS (λ by. nat_lt (length (get_or c.args.self.now.updates by [])) (scripted_commits by (c.args.self.now.script ++ events)))
 
 read_events : (c : After-overdraws) → Events c
 read_events c =
@@ -37,15 +37,15 @@ read_events c =
       spelled = script_spelled (one_of (drop 1 (fields_of c.args.fields.now))) c.in-Some.events.now r.0 c.in-Some.ensures r.1;
       within = within;
       added = added;
-      told = c.overdraws.ensures ∙ ap (λ (u : List (List UpdateLists)). some_below MOST_UPDATERS (λ by. nat_lt (length (get_or u by [])) (count_parts by c.read.new.self))) (c.deref.ensures.value ∙ updates)
-          ∙ ap (λ s. some_below MOST_UPDATERS (λ by. nat_lt (length (get_or c.args.self.now.updates by [])) (count_parts by s))) added;
+      told = c.overdraws.ensures ∙ ap (λ (u : List (List UpdateLists)). some_below MOST_UPDATERS (λ by. nat_lt (length (get_or u by [])) (scripted_commits by c.read.new.self))) (c.deref.ensures.value ∙ updates)
+          ∙ ap (λ s. some_below MOST_UPDATERS (λ by. nat_lt (length (get_or c.args.self.now.updates by [])) (scripted_commits by s))) added;
     }
 
 abbrev with_script : DraftValue → List (Option ℕ) → DraftValue
 with_script d script = record d { script = script }
 
 judged_by : (d : DraftValue) (events : List (Option ℕ)) (b : Bool) → script_passes d.script events ≡ false
-    → b ≡ some_below MOST_UPDATERS (λ by. nat_lt (length (get_or d.updates by [])) (count_parts by (d.script ++ events))) → record_kind d (Ok (e.DeclaredScript events)) ≡ cond b (Some fault.Overdrawn) None
+    → b ≡ some_below MOST_UPDATERS (λ by. nat_lt (length (get_or d.updates by [])) (scripted_commits by (d.script ++ events))) → record_kind d (Ok (e.DeclaredScript events)) ≡ cond b (Some fault.Overdrawn) None
 judged_by d events b within over = rw (within, ← over) refl
 
 pub returns-then-overdraws : goal.returns-then-overdraws

@@ -28,7 +28,7 @@ record Lists (c : After-replan_kind) : Type 0 where
   spelled : replan_by (three_of (drop 1 (fields_of c.args.fields.now))) ≡ Ok (e.DeclaredReplan c.in-Some-read_u64.cycle ss fs)
   sizes : list_any (outside 1 MOST_SIZE) ss ≡ false → c.read_sizes.new.sizes.items ≡ kept_parts ss
   freqs : list_any (option_any (outside 1 MOST_FREQ)) fs ≡ false → c.read_freqs.new.freqs.items ≡ kept_parts fs
-  told : c.replan_kind.result ≡ first_of (replan_tests (length c.args.self.now.replans) c.args.self.now.last_cycle c.in-Some-read_u64.cycle ss fs)
+  told : c.replan_kind.result ≡ first_of (replan_tests (length c.args.self.now.replans) c.args.self.now.last_replan_cycle c.in-Some-read_u64.cycle ss fs)
 
 either : (c : After-replan_kind) → c.if-wrong_size.wrong ≡ (c.in-Some-2.wrong_size || c.in-Some-3.wrong_freq)
 either c = elim c.if-wrong_size.branch as (λ _. c.if-wrong_size.wrong ≡ (c.in-Some-2.wrong_size || c.in-Some-3.wrong_freq)) [
@@ -46,7 +46,7 @@ lists c =
     let f = parts_are (option_any (outside 1 MOST_FREQ)) c.in-Some-3.wrong_freq (list_of freq_of c.in-Some.freqs.now) c.read_freqs.new.freqs.items (rw c.in-Some-3.is at c.in_ok-wrong_freq.ensures) in
     let wrong : c.if-wrong_size.wrong ≡ (list_any (outside 1 MOST_SIZE) s.0 || list_any (option_any (outside 1 MOST_FREQ)) f.0) = either c ∙ both_same s.2 f.2 in
     let replans : c.len.result ≡ length d.replans = omega (arith, c.len.ensures, ap (λ (d : DraftValue). length d.replans) c.self.view_is) in
-    let last : c.self.inside.last_cycle ≡ d.last_cycle = ap (λ (d : DraftValue). d.last_cycle) c.self.view_is in
+    let last : c.self.inside.last_replan_cycle ≡ d.last_replan_cycle = ap (λ (d : DraftValue). d.last_replan_cycle) c.self.view_is in
     let sizes : c.len-2.result ≡ length c.read_sizes.new.sizes.items = omega (arith, c.len-2.ensures) in
     let freqs : c.len-3.result ≡ length c.read_freqs.new.freqs.items = omega (arith, c.len-3.ensures) in
     record {
@@ -56,7 +56,7 @@ lists c =
       sizes = s.3;
       freqs = f.3;
       told = c.replan_kind.ensures ∙ seen_same cycle wrong replans last sizes freqs
-          ∙ replan_seen (length d.replans) d.last_cycle cycle s.0 f.0 c.read_sizes.new.sizes.items c.read_freqs.new.freqs.items s.3 f.3;
+          ∙ replan_seen (length d.replans) d.last_replan_cycle cycle s.0 f.0 c.read_sizes.new.sizes.items c.read_freqs.new.freqs.items s.3 f.3;
     }
 
 pub returns-in-Some-replan_kind-clause-read : goal.returns-in-Some-replan_kind-clause-read
@@ -68,15 +68,15 @@ abbrev replan_of : ℕ → List DiskPart → ReplanSaid
 replan_of cycle disks = record { cycle = cycle; disks = disks }
 
 abbrev with_replan : DraftValue → ReplanSaid → DraftValue
-with_replan d read = record d { replans = d.replans ++ read ∷ []; last_cycle = read.cycle }
+with_replan d read = record d { replans = d.replans ++ read ∷ []; last_replan_cycle = read.cycle }
 
--- No kind applies where none was told, and then both lists were kept whole.
-none_told : (c : After-replan_kind) (l : Lists c) → c.replan_kind.result ≡ None → first_of (replan_tests (length c.args.self.now.replans) c.args.self.now.last_cycle c.in-Some-read_u64.cycle l.ss l.fs) ≡ None
+-- If no kind was found, none applies, and both lists were kept whole.
+none_told : (c : After-replan_kind) (l : Lists c) → c.replan_kind.result ≡ None → first_of (replan_tests (length c.args.self.now.replans) c.args.self.now.last_replan_cycle c.in-Some-read_u64.cycle l.ss l.fs) ≡ None
 none_told c l none = sym l.told ∙ none
 
 kept_whole : (c : After-replan_kind) (l : Lists c) → c.replan_kind.result ≡ None → (c.read_sizes.new.sizes.items ≡ l.ss) × (c.read_freqs.new.freqs.items ≡ l.fs)
 kept_whole c l none =
-    all_kept (length c.args.self.now.replans) c.args.self.now.last_cycle c.in-Some-read_u64.cycle l.ss l.fs c.read_sizes.new.sizes.items c.read_freqs.new.freqs.items l.sizes l.freqs (none_told c l none)
+    all_kept (length c.args.self.now.replans) c.args.self.now.last_replan_cycle c.in-Some-read_u64.cycle l.ss l.fs c.read_sizes.new.sizes.items c.read_freqs.new.freqs.items l.sizes l.freqs (none_told c l none)
 
 pub returns-clause-read : goal.returns-clause-read
 returns-clause-read c =
@@ -93,7 +93,7 @@ pub returns-clause-few : goal.returns-clause-few
 returns-clause-few c =
     let a = (goal.at.returns-clause-few c).After-replan_kind in let l = lists a in
     let kept = kept_whole a l c.in_default-replan_kind.is in
-    let t = replan_tested (length c.args.self.now.replans) c.args.self.now.last_cycle c.in-Some-read_u64.cycle l.ss l.fs (none_told a l c.in_default-replan_kind.is) in
+    let t = replan_tested (length c.args.self.now.replans) c.args.self.now.last_replan_cycle c.in-Some-read_u64.cycle l.ss l.fs (none_told a l c.in_default-replan_kind.is) in
     let few = t.few_disks in
     let disks : c.in_ok-disks.disks.items ≡ disks_said l.ss l.fs =
     c.in_ok-disks.ensures ∙ ap (λ ss. disks_said ss c.deref-2.result.now) (c.deref.ensures.value ∙ kept.0) ∙ ap (λ fs. disks_said l.ss fs) (c.deref-2.ensures.value ∙ kept.1) in

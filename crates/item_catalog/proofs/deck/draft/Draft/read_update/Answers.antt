@@ -56,14 +56,14 @@ returns-in-Some-update_kind-clause-read c =
     let l = lists (goal.at.returns-in-Some-update_kind-clause-read c).After-update_kind in
     ap (record_kind c.args.self.now) l.spelled ∙ sym l.told ∙ c.in-Some-update_kind.is
 
--- An update of two lists, and what a record spells by it.
+-- An update of two lists, and what a record spells with it.
 abbrev lists_of : List ℕ → List Write → UpdateLists
 lists_of reads writes = record { reads = reads; writes = writes }
 
 abbrev result_of : ℕ → UpdateLists → Result Declaration FaultKind
 result_of by u = Ok (e.DeclaredUpdate by u.reads u.writes)
 
--- No kind applies where none was told, and the lists that were kept are those of the record.
+-- If no kind was found, none applies, and the lists that were kept are those of the record.
 none_told : (c : After-update_kind) (l : Lists c) → c.update_kind.result ≡ None → first_of (update_tests (length c.args.self.now.items) c.args.self.now.update_count c.in-Some-read_u64.by l.rs l.ws) ≡ None
 none_told c l none = sym l.told ∙ none
 

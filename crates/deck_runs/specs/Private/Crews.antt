@@ -1,4 +1,4 @@
--- Jobs before and after they ran side by side.
+-- For private steps alone. Jobs before and after they ran side by side.
 use Rattle.std.specs.Prelude.{◌≡◌, ℕ, ◌+◌, ◌*◌, ◌<◌, ◌≤◌, List, [], length, map, take, get_or, MatchBool, Option, Some, None}
 use Rattle.turnstile.specs.Passes.{TurnstileId}
 use Rattle.air_history.specs.Boards.{board_of}
@@ -22,7 +22,7 @@ passes_of updaters = map (λ run. run.pass) updaters
 abbrev pub monitors_of : List MonitorRun → List MonitorState
 monitors_of watchers = map (λ run. run.monitor) watchers
 
--- The pass is the new one of the station's and the deck's conductor, the board is that of the first values, and there is room for a bucket.
+-- The pass is the new one of the station's and the deck's conductor, the board is that of the first values, and the buffer has room for a bucket.
 pub record CanConduct (station : TurnstileId) (deck : Deck) (run : ConductorRun) : Type 0 where
   pub pass : run.pass ≡ new_pass station deck (length deck.updates)
   pub board : run.board ≡ board_of (values_in deck) []
@@ -32,18 +32,18 @@ pub record CanConduct (station : TurnstileId) (deck : Deck) (run : ConductorRun)
 unfoldable pub HasNewPass : TurnstileId → Deck → UpdaterRun → Type 0
 HasNewPass station deck run = (run.pass ≡ new_pass station deck run.pass.number) × (run.pass.number < length deck.updates)
 
--- The pass, which is the same but for what it has seen, made all updates of its updater, or the first of them and not all.
+-- The pass is the same except for what it has seen, and it made all updates of its updater, or only the first of them.
 unfoldable pub HasMadeUpdates : Deck → UpdaterRun → UpdaterRun → Type 0
 HasMadeUpdates deck run now = (now.pass ≡ with_seen run.pass now.pass.seen) × MatchBool now.done
     (made_by run.pass.number now.pass.seen ≡ commits_from run.pass.number 0 (updates_by deck run.pass.number))
     ((n : ℕ) × (n < length (updates_by deck run.pass.number)) × (made_by run.pass.number now.pass.seen ≡ commits_from run.pass.number 0 (take n (updates_by deck run.pass.number))))
 
--- What a monitor's job gave: a line, after all looks, or none, after fewer.
+-- What a monitor's job gave: a line after all looks, or nothing after fewer.
 abbrev pub GivesLine : ℕ → MonitorState → MonitorState → Option LookLine → Type 0
 GivesLine looks m n (Some line) = LookedTimes looks m n × IsLookLineOf n line
 GivesLine looks m n None = (k : ℕ) × (k < looks) × LookedTimes k m n
 
--- The monitor looked so many times, and its last look is the glance.
+-- The monitor looked `looks` times, and its last look is the glance.
 unfoldable pub IsWatched : ℕ → MonitorRun → MonitorRun → Type 0
 IsWatched looks run now = GivesLine looks run.monitor now.monitor now.glance
 

@@ -1,4 +1,4 @@
--- A row that is begun: what stands behind a text between two of its fields.
+-- For private steps alone. A row that is begun: what a writer has after a text, between two fields of the row.
 use Rattle.std.specs.Prelude.{◌≡◌, ◌++◌, ◌==◌, ◌&&◌, ◌||◌, ℕ, List, not, length, Vec}
 use Rattle.std.specs.Global.{Global}
 use Rattle.csv.specs.declared.writer.Writer.{Writer}
@@ -6,7 +6,7 @@ use Rattle.csv.specs.Writing.{fields_written, has_written, is_blank, row_body, w
 use Rattle.air_model.specs.Rows.{row_writer}
 use Rattle.air_report.specs.RowWriters.{written_text}
 
--- Behind this text the writer has begun a row with these fields, and knows whether they show a byte.
+-- After this text the writer has begun a row with these fields, and knows whether any of them shows a byte.
 pub record IsBegun (before : List ℕ) (fields : List (List ℕ)) (wtr : Writer (Vec ℕ Global)) : Type 0 where
   pub setup : writer_setup wtr ≡ row_writer
   pub count : fields_written wtr ≡ length fields
