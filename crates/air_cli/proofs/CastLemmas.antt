@@ -16,10 +16,11 @@ use Rattle.air_report.specs.declared.status.Status.{Status}
 use Rattle.air_report.specs.declared.status.Status.TheVariants as status
 use Rattle.deck_runs.specs.RunTapes.{run_tape_len}
 use Rattle.deck_runs.specs.RunTruths.{IsTrueRun, TellsHistory}
+use Rattle.chunk_program.specs.Plans.{AreShort}
 use Rattle.air_cli.specs.NamedDecks.{DeckCause, HasDeck, SpellsDeck}
 use Rattle.air_cli.proofs.CauseLemmas.{of_had}
 use Rattle.air_cli.specs.NamedFiles.{UnreadCause}
-use Rattle.air_cli.specs.RunnableDecks.{HasShortPrograms, UnrunnableCause}
+use Rattle.air_cli.specs.RunnableDecks.{UnrunnableCause}
 use Rattle.air_model.specs.Runs.{IsRun, Run}
 use Rattle.air_cli.specs.Answers.{NoCountRose}
 use Rattle.air_cli.specs.Cast.{CastCause, HasSent, IsCast, cast_meaning}
@@ -43,7 +44,7 @@ unrunnable_cast deck to mast before now status.NoMemory h = tt
 unrunnable_cast deck to mast before now s h = (unrunnable_run deck before now s h, refl)
 
 -- A deck whose tape would be too long isn't cast either; and a mast may fail.
-pub refused_cast : (deck : List ℕ) (to : ℕ) (old new : MastState) (before now : ShelfState) (d : Deck) (s : Status) → SpellsDeck deck before d → IsDeck d → HasShortPrograms d
+pub refused_cast : (deck : List ℕ) (to : ℕ) (old new : MastState) (before now : ShelfState) (d : Deck) (s : Status) → SpellsDeck deck before d → IsDeck d → AreShort d
     → IsCastRefusal d to old new s → CastCause deck to old new before now s
 unfolding CastCause RunCause UnrunnableCause DeckCause UnreadCause IsCastRefusal
 refused_cast deck to old new before now d (status.TooLong bytes) spells made short h = ((d, spells, made, (short, h.0.counted, h.0.above)), h.1)

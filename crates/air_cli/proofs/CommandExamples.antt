@@ -17,7 +17,7 @@ use Rattle.air_model.proofs.ReceiverLemmas.{receiver}
 use Rattle.air_model.proofs.ScriptLemmas.{script}
 use Rattle.air_report.specs.declared.status.Status.TheVariants as status
 use Rattle.air_sender.proofs.TapeLemmas.{tape_back}
-use Rattle.chunk_program.specs.Plans.{IsFirstTooLong}
+use Rattle.chunk_program.specs.Plans.{AreShort, IsFirstTooLong}
 use Rattle.item_catalog.specs.DeckLimits.{DiskWithin, ReaderWithin, ReplanWithin, WithinLimits}
 use Rattle.item_catalog.specs.Grammar.{Spells}
 use Rattle.item_catalog.proofs.GrammarLemmas.{one_deck}
@@ -28,7 +28,7 @@ use Rattle.air_cli.specs.ReportsAndTapes.{ReportAndTape}
 use Rattle.air_cli.specs.NamedDecks.{DeckCause, HasDeck, IsFaulty, SpellsDeck}
 use Rattle.air_cli.specs.NamedFiles.{HasBytes, UnreadCause}
 use Rattle.air_cli.specs.Plan.{PlanGives}
-use Rattle.air_cli.specs.RunnableDecks.{HasShortPrograms, UnrunnableCause}
+use Rattle.air_cli.specs.RunnableDecks.{UnrunnableCause}
 use Rattle.air_cli.specs.Script.{ScriptCause, ScriptGives}
 use Rattle.air_cli.specs.Truths.{AreTrue, IsTrueScript, IsTrueTape}
 use Rattle.air_cli.specs.Tune.{IsTuned, TuneCause, TuneGives, tune_given}
@@ -39,7 +39,7 @@ use Rattle.air_cli.proofs.TruthLemmas.{true_script, true_tape}
 
 -- ---- the deck that a file spells
 
-has_deck : HasDeck (codes "d") shelf HasShortPrograms
+has_deck : HasDeck (codes "d") shelf AreShort
 has_deck = (small, spells_deck, small_is_deck, short)
 
 -- The told file spells no other deck than this one.
@@ -172,9 +172,9 @@ not_script = (
 not_script_too_long : (bytes : ℕ) → ScriptCause (codes "d") shelf shelf (status.TooLong bytes) → ⊥
 unfolding ScriptCause
 not_script_too_long bytes (d, is, made, long) =
-    let few = subst (λ d. HasShortPrograms d × (bytes ≡ length (script_tape d)) × (1073741824 < bytes)) (the_deck d is) long in omega (arith, few.1, few.2, script_bytes)
+    let few = subst (λ d. AreShort d × (bytes ≡ length (script_tape d)) × (1073741824 < bytes)) (the_deck d is) long in omega (arith, few.1, few.2, script_bytes)
 
-script_too_long : (d : Deck) (untold : ShelfState) → untold.told.file (codes "d") ≡ None → IsDeck d → HasShortPrograms d → length (script_tape d) ≡ 1073741825
+script_too_long : (d : Deck) (untold : ShelfState) → untold.told.file (codes "d") ≡ None → IsDeck d → AreShort d → length (script_tape d) ≡ 1073741825
     → ScriptCause (codes "d") untold untold (status.TooLong 1073741825)
 unfolding ScriptCause
 script_too_long d untold none made can counted =

@@ -7,12 +7,12 @@ use Rattle.air_devices.specs.WhatIsTold.{WhereTold}
 use Rattle.item_catalog.specs.Grammar.{HasFault, Spells}
 use Rattle.item_catalog.proofs.GrammarLemmas.{no_fault, one_deck}
 use Rattle.air_model.specs.Decks.{Deck}
-use Rattle.chunk_program.specs.Plans.{IsFirstTooLong}
+use Rattle.chunk_program.specs.Plans.{AreShort, IsFirstTooLong}
 use Rattle.air_report.specs.declared.status.Status.{Status}
 use Rattle.air_report.specs.declared.status.Status.TheVariants as status
 use Rattle.air_cli.specs.NamedFiles.{UnreadCause}
 use Rattle.air_cli.specs.NamedDecks.{DeckCause}
-use Rattle.air_cli.specs.RunnableDecks.{HasShortPrograms, UnrunnableCause}
+use Rattle.air_cli.specs.RunnableDecks.{UnrunnableCause}
 use Rattle.air_cli.specs.ReportsAndTapes.{ReportAndTape}
 use Rattle.air_cli.specs.Meanings.{Meaning}
 use Rattle.air_cli.specs.ToldInputs.{TellSameInputs, TellsInputs}
@@ -54,7 +54,7 @@ both name before bytes P Q told p q =
     (a.1.0, a.1.2, subst Q (one_deck bytes b.1.0 a.1.0 b.1.1 a.1.1) b.1.2)
 
 -- The programs of a deck aren't all short enough if the first that is too long has this number of slots.
-pub too_long : (d : Deck) (slots : ℕ) → HasShortPrograms d → IsFirstTooLong d slots → ⊥
+pub too_long : (d : Deck) (slots : ℕ) → AreShort d → IsFirstTooLong d slots → ⊥
 too_long d slots short first = let few = short first.edition first.within in omega (arith, few, first.long.counted, first.long.above)
 
 -- ---- what isn't refused
@@ -79,10 +79,10 @@ deck_fits name before now (status.Deck row kind) bytes P told suits calm h =
     absurd (no_fault bytes good.1.0 row kind good.1.1 bad.1)
 deck_fits name before now s bytes P told suits calm h = unread_fits name MOST_DECK_BYTES before now s bytes told (deck_told name before bytes P told suits).0 calm h
 
-pub runs_fits : (name : List ℕ) (before now : ShelfState) (s : Status) (bytes : List ℕ) → before.told.file name ≡ Some bytes → OfDeck name before HasShortPrograms
+pub runs_fits : (name : List ℕ) (before now : ShelfState) (s : Status) (bytes : List ℕ) → before.told.file name ≡ Some bytes → OfDeck name before AreShort
     → NoCountRose before.faults now.faults → UnrunnableCause name before now s → s ≡ status.NoMemory
 unfolding UnrunnableCause DeckCause
 runs_fits name before now (status.PlanTooLong slots) bytes told suits calm h =
-    let two = both name before bytes HasShortPrograms (λ d. IsFirstTooLong d slots) told suits (of_had name before (λ d. IsFirstTooLong d slots) h) in
+    let two = both name before bytes AreShort (λ d. IsFirstTooLong d slots) told suits (of_had name before (λ d. IsFirstTooLong d slots) h) in
     absurd (too_long two.0 slots two.1 two.2)
-runs_fits name before now s bytes told suits calm h = deck_fits name before now s bytes HasShortPrograms told suits calm h
+runs_fits name before now s bytes told suits calm h = deck_fits name before now s bytes AreShort told suits calm h

@@ -9,11 +9,11 @@ use Rattle.air_report.specs.declared.status.Status.TheVariants as status
 use Rattle.deck_runs.specs.RunTapes.{run_tape_len}
 use Rattle.item_catalog.specs.Grammar.{HasFault}
 use Rattle.live_replay.proofs.AuditExamples.{small, small_is_deck}
+use Rattle.chunk_program.specs.Plans.{AreShort}
 use Rattle.air_cli.specs.Audit.{HasReport}
 use Rattle.air_cli.specs.NamedDecks.{IsFaulty}
 use Rattle.air_cli.specs.ReportsAndTapes.{ReportAndTape}
 use Rattle.air_cli.specs.Run.{CanRun}
-use Rattle.air_cli.specs.RunnableDecks.{HasShortPrograms}
 use Rattle.air_cli.specs.Script.{script_meaning}
 use Rattle.air_cli.specs.Truths.{IsTrueTape}
 use Rattle.air_cli.specs.Tune.{IsTuned, TuneCause, tune_given, tune_meaning}
@@ -35,9 +35,9 @@ pub record Limits : Type 0 where
   no_deck : (bytes : List ℕ) → length bytes ≡ 67108865 → IsFaulty (codes "d") 3 7 (of_bytes bytes) (of_bytes bytes) → ⊥
   its_fault : (bytes : List ℕ) → IsFaulty (codes "d") 3 7 (of_bytes bytes) untold → HasFault bytes 3 7
   -- a tape of 1,073,741,824 bytes, of a run, of a script, and of one that is heard
-  run : (d : Deck) → HasShortPrograms d → run_tape_len d ≡ 1073741824 → CanRun d
+  run : (d : Deck) → AreShort d → run_tape_len d ≡ 1073741824 → CanRun d
   no_run : (d : Deck) → run_tape_len d ≡ 1073741825 → CanRun d → ⊥
-  script : (d : Deck) → IsDeck d → HasShortPrograms d → length (script_tape d) ≡ 1073741824 → (script_meaning (codes "d") None).Suits untold
+  script : (d : Deck) → IsDeck d → AreShort d → length (script_tape d) ≡ 1073741824 → (script_meaning (codes "d") None).Suits untold
   script_fits : (h : (script_meaning (codes "d") None).Suits untold) → length (script_tape h.0) ≤ 1073741824
   tape : (bytes : List ℕ) → length bytes ≡ 1073741824 → (tape_read bytes).cut ≡ None → IsTrueTape small (tape_read bytes).records → IsTuned small (tune_given small (tape_read bytes).records) bytes
   no_tape : (bytes : List ℕ) (given : ReportAndTape) → length bytes ≡ 1073741825 → IsTuned small given bytes → ⊥

@@ -1,6 +1,7 @@
 -- What the proofs of `listen` need of its definitions.
 use Rattle.std.proofs.Common.{◌≡◌, ◌∙◌, ℕ, List, [], Option, Some, None, refl, ap, ap₂, inl, inr, arith}
 use Rattle.std.specs.Prelude.{◌⊎◌}
+use Rattle.chunk_program.specs.Plans.{AreShort}
 use Rattle.air_cli.specs.Hearings.{AreEarSessions, IsHearAnswer, IsHeardOnEar, TakesJust, TakesUpTo}
 use Rattle.air_cli.specs.declared.commands.hearings.HearFault.{HearFault}
 use Rattle.air_cli.specs.declared.commands.hearings.HearFault.TheVariants as fault
@@ -17,7 +18,7 @@ use Rattle.air_report.specs.declared.status.Status.TheVariants as status
 use Rattle.air_cli.specs.NamedDecks.{DeckCause, HasDeck, SpellsDeck}
 use Rattle.air_cli.proofs.CauseLemmas.{of_had}
 use Rattle.air_cli.specs.NamedFiles.{UnreadCause}
-use Rattle.air_cli.specs.RunnableDecks.{HasShortPrograms, UnrunnableCause}
+use Rattle.air_cli.specs.RunnableDecks.{UnrunnableCause}
 use Rattle.air_cli.specs.Answers.{NoCountRose}
 use Rattle.air_cli.specs.Listen.{HasHeardPort, IsListening, ListenCause, listen_meaning}
 use Rattle.air_cli.specs.Words.{AsksListen}
@@ -40,7 +41,7 @@ unrunnable_listen deck on ear before now status.NoMemory h = tt
 unrunnable_listen deck on ear before now s h = (h, refl)
 
 -- They don't report either if the ear fails.
-pub refused_listen : (deck : List ℕ) (on : ℕ) (old new : EarState) (before now : ShelfState) (d : Deck) (s : Status) → SpellsDeck deck before d → IsDeck d → HasShortPrograms d
+pub refused_listen : (deck : List ℕ) (on : ℕ) (old new : EarState) (before now : ShelfState) (d : Deck) (s : Status) → SpellsDeck deck before d → IsDeck d → AreShort d
     → IsListenRefusal d on old new s → ListenCause deck on old new before now s
 unfolding ListenCause UnrunnableCause DeckCause UnreadCause IsListenRefusal
 refused_listen deck on old new before now d (status.AirFault at) spells made short h = (d, spells, made, short, h)
@@ -65,11 +66,11 @@ listen_sound deck on old new = record {
 }
 
 listen_fits : (deck : List ℕ) (on : ℕ) (old new : EarState) (before now : ShelfState) (s : Status) → TellsInputs (listen_meaning deck on old new) before
-    → HasDeck deck before HasShortPrograms × (Rose old.faults new.faults → ⊥) → NoCountRose before.faults now.faults → ListenCause deck on old new before now s → s ≡ status.NoMemory
+    → HasDeck deck before AreShort × (Rose old.faults new.faults → ⊥) → NoCountRose before.faults now.faults → ListenCause deck on old new before now s → s ≡ status.NoMemory
 unfolding ListenCause
 listen_fits deck on old new before now (status.AirFault at) told suits calm h = let broken = h.4 in absurd (suits.1 broken.rose)
 listen_fits deck on old new before now status.NoMemory told suits calm h = refl
-listen_fits deck on old new before now s told suits calm h = let known = told deck refl in runs_fits deck before now s known.0 known.1 (of_had deck before HasShortPrograms suits.0) calm h.0
+listen_fits deck on old new before now s told suits calm h = let known = told deck refl in runs_fits deck before now s known.0 known.1 (of_had deck before AreShort suits.0) calm h.0
 
 pub listen_facts : (deck : List ℕ) (on : ℕ) (old new : EarState) → CommandFacts (listen_meaning deck on old new)
 listen_facts deck on old new = record {

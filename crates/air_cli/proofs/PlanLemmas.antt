@@ -18,7 +18,7 @@ use Rattle.air_model.specs.Outputs.{plan_output}
 use Rattle.air_model.specs.Rows.{row_writer, rows_text}
 use Rattle.air_model.proofs.SlotPlaces.{get_or_even, length_minor}
 use Rattle.air_report.proofs.RowLemmas.{rows_more}
-use Rattle.chunk_program.proofs.EditionSteps.{own_specs_are, replan_specs_are}
+use Rattle.chunk_program.proofs.EditionSteps.{replan_specs_are}
 
 -- ---- disks
 
@@ -31,20 +31,6 @@ cut_freq items (spec ∷ specs) (suc n) f h = cut_freq (drop spec.size items) sp
 
 pub freq_of_disk : (d : Deck) (e n f : ℕ) → IfSome (slice_get (specs_in d e) n) (λ spec. f ≡ spec.freq) → IfSome (slice_get (disks_in d e) n) (λ disk. f ≡ disk.freq)
 freq_of_disk d e n f h = cut_freq (order (rates_in d)) (specs_in d e) n f h
-
--- The disks of an edition are those of the deck, or of the edition's replan.
-pub own_count : (d : Deck) (e n : ℕ) → e ≡ 0 → n ≡ length d.disks → n ≡ length (specs_in d e)
-own_count d e n own count = count ∙ ap length (own_specs_are d e own)
-
-pub replan_count : (d : Deck) (e k n : ℕ) (r : Replan) → e ≡ k + 1 → slice_get d.replans k ≡ Some r → n ≡ length r.disks → n ≡ length (specs_in d e)
-replan_count d e k n r after at count = count ∙ ap length (replan_specs_are d e k r after at)
-
-pub own_freq : (d : Deck) (e n f : ℕ) → e ≡ 0 → IfSome (slice_get d.disks n) (λ spec. f ≡ spec.freq) → IfSome (slice_get (specs_in d e) n) (λ spec. f ≡ spec.freq)
-own_freq d e n f own freq = subst (λ (specs : List DiskSpec). IfSome (slice_get specs n) (λ spec. f ≡ spec.freq)) (own_specs_are d e own) freq
-
-pub replan_freq : (d : Deck) (e k n f : ℕ) (r : Replan) → e ≡ k + 1 → slice_get d.replans k ≡ Some r → IfSome (slice_get r.disks n) (λ spec. f ≡ spec.freq)
-    → IfSome (slice_get (specs_in d e) n) (λ spec. f ≡ spec.freq)
-replan_freq d e k n f r after at freq = subst (λ (specs : List DiskSpec). IfSome (slice_get specs n) (λ spec. f ≡ spec.freq)) (replan_specs_are d e k r after at) freq
 
 -- ---- slots
 

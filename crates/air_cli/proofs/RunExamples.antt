@@ -39,10 +39,10 @@ use Rattle.deck_runs.specs.RunTapes.{run_tape_len}
 use Rattle.deck_runs.specs.RunTruths.{IsTrueRun}
 use Rattle.deck_runs.proofs.HeardRunLemmas.{OneHistoryLaw, true_run}
 use Rattle.live_replay.proofs.AuditExamples.{its_bytes, small, small_is_deck, ten}
+use Rattle.chunk_program.specs.Plans.{AreShort}
 use Rattle.air_cli.specs.Cast.{CastCause, CastGives, HasSent, IsBrokenCast, IsCast, cast_meaning}
 use Rattle.air_cli.specs.ReportsAndTapes.{ReportAndTape}
 use Rattle.air_cli.specs.GivenRuns.{IsGivenRun}
-use Rattle.air_cli.specs.RunnableDecks.{HasShortPrograms}
 use Rattle.air_cli.specs.Run.{RunCause, RunGives, run_meaning}
 use Rattle.air_cli.specs.Private.GivenTexts.{cast_given, run_given}
 use Rattle.air_cli.proofs.CommandExamples.{the_deck, within}
@@ -110,7 +110,7 @@ not_run h = let differs : true ≡ false = h.0 in cc
 not_too_long : (bytes : ℕ) → RunCause (codes "d") shelf shelf (status.TooLong bytes) → ⊥
 unfolding RunCause
 not_too_long bytes (d, is, made, long) =
-    let here = subst (λ d. HasShortPrograms d × (bytes ≡ run_tape_len d) × (1073741824 < bytes)) (the_deck d is) long in omega (arith, here.1, here.2, run_bytes)
+    let here = subst (λ d. AreShort d × (bytes ≡ run_tape_len d) × (1073741824 < bytes)) (the_deck d is) long in omega (arith, here.1, here.2, run_bytes)
 
 -- It writes the named tape.
 run_output_named : (run_meaning (codes "d") (codes "o")).output ≡ Some (codes "o")

@@ -8,9 +8,10 @@ use Rattle.air_devices.specs.Shelves.{ShelfState}
 use Rattle.air_report.specs.declared.status.Status.{Status}
 use Rattle.air_report.specs.declared.status.Status.TheVariants as status
 use Rattle.air_model.specs.Decks.{Deck, IsDeck}
+use Rattle.chunk_program.specs.Plans.{AreShort}
 use Rattle.air_cli.specs.NamedDecks.{DeckCause, SpellsDeck}
 use Rattle.air_cli.specs.NamedFiles.{UnreadCause}
-use Rattle.air_cli.specs.RunnableDecks.{HasShortPrograms, UnrunnableCause}
+use Rattle.air_cli.specs.RunnableDecks.{UnrunnableCause}
 use Rattle.air_cli.proofs.CauseLemmas.{OfDeck, of_deck, of_had, where_so}
 use Rattle.air_cli.specs.ReportsAndTapes.{ReportAndTape}
 use Rattle.air_model.specs.Runs.{Run}
@@ -29,7 +30,7 @@ unrunnable_run name before now (status.TooLong bytes) h = absurd h
 unrunnable_run name before now s h = h
 
 -- A deck whose tape would be too long has no run either.
-pub long_run_cause : (name : List ℕ) (before now : ShelfState) (d : Deck) (s : Status) → SpellsDeck name before d → IsDeck d → HasShortPrograms d → IsRunRefusal d s → RunCause name before now s
+pub long_run_cause : (name : List ℕ) (before now : ShelfState) (d : Deck) (s : Status) → SpellsDeck name before d → IsDeck d → AreShort d → IsRunRefusal d s → RunCause name before now s
 unfolding RunCause UnrunnableCause DeckCause UnreadCause IsRunRefusal
 long_run_cause name before now d (status.TooLong bytes) spells made short h = (d, spells, made, (short, h.counted, h.above))
 long_run_cause name before now d status.NoMemory spells made short h = tt
@@ -54,12 +55,12 @@ run_sound deck tape = record {
 
 -- A run's tape isn't both short enough and too long.
 abbrev LongRun : ℕ → Deck → Type 0
-LongRun bytes d = HasShortPrograms d × (bytes ≡ run_tape_len d) × (MOST_TAPE_BYTES < bytes)
+LongRun bytes d = AreShort d × (bytes ≡ run_tape_len d) × (MOST_TAPE_BYTES < bytes)
 
 not_both : (d : Deck) (bytes : ℕ) → run_tape_len d ≤ MOST_TAPE_BYTES → LongRun bytes d → ⊥
 not_both d bytes few long = let same = long.1 in let above = long.2 in omega arith
 
-can_run : (deck : List ℕ) (before : ShelfState) → OfDeck deck before CanRun → OfDeck deck before HasShortPrograms
+can_run : (deck : List ℕ) (before : ShelfState) → OfDeck deck before CanRun → OfDeck deck before AreShort
 can_run deck before suits = where_so (before.told.file deck) _ _ (λ bytes h. (h.0, (h.1.0, h.1.1, h.1.2.0))) suits
 
 pub run_fits : (deck tape : List ℕ) (before now : ShelfState) (s : Status) → TellsInputs (run_meaning deck tape) before → OfDeck deck before CanRun
@@ -75,10 +76,10 @@ run_fits deck tape before now s told suits calm h =
 
 -- If the deck's file is told, all of it holds of the deck that the file spells.
 pub told_run : (deck : List ℕ) (before : ShelfState) (given : ReportAndTape) → RunGives deck before given
-    → (given.differs ≡ false) × OfDeck deck before (λ d. HasShortPrograms d × (run_tape_len d ≤ MOST_TAPE_BYTES) × ((run : Run) × IsGivenRun d given run))
+    → (given.differs ≡ false) × OfDeck deck before (λ d. AreShort d × (run_tape_len d ≤ MOST_TAPE_BYTES) × ((run : Run) × IsGivenRun d given run))
 unfolding RunGives
 told_run deck before given (same, (d, spells, made, can, is)) =
-    (same, of_deck deck before d (λ d. HasShortPrograms d × (run_tape_len d ≤ MOST_TAPE_BYTES) × ((run : Run) × IsGivenRun d given run)) spells (can.0, can.1, is))
+    (same, of_deck deck before d (λ d. AreShort d × (run_tape_len d ≤ MOST_TAPE_BYTES) × ((run : Run) × IsGivenRun d given run)) spells (can.0, can.1, is))
 
 pub run_facts : (deck tape : List ℕ) → CommandFacts (run_meaning deck tape)
 run_facts deck tape = record { sound = run_sound deck tape; inputs = record { fits = λ before now s told suits. run_fits deck tape before now s told (of_had deck before CanRun suits) } }

@@ -8,6 +8,7 @@ use Rattle.air_devices.specs.Shelves.{ShelfState}
 use Rattle.air_report.specs.declared.status.Status.{Status}
 use Rattle.air_report.specs.declared.status.Status.TheVariants as status
 use Rattle.item_catalog.proofs.GrammarLemmas.{one_deck}
+use Rattle.chunk_program.specs.Plans.{AreShort}
 use Rattle.air_cli.specs.Private.BeforeDelivery.{IsMade, IsUnmade, ReadsInputs}
 use Rattle.air_cli.specs.ReportsAndTapes.{ReportAndTape}
 use Rattle.air_cli.specs.NamedDecks.{DeckCause}
@@ -15,7 +16,6 @@ use Rattle.air_cli.specs.RunnableDecks.{UnrunnableCause}
 use Rattle.air_cli.specs.NamedFiles.{UnreadCause}
 use Rattle.air_cli.specs.Script.{ScriptCause, script_meaning}
 use Rattle.air_cli.proofs.RefusalLemmas.{IsSound, unrunnable_still}
-use Rattle.air_cli.specs.RunnableDecks.{HasShortPrograms}
 use Rattle.air_cli.proofs.CauseLemmas.{OfDeck, of_had, where_so}
 use Rattle.air_model.specs.Decks.{Deck}
 use Rattle.air_model.specs.Outputs.{script_tape}
@@ -61,20 +61,20 @@ reads_for deck tape before now h = record { files = h.files; left = h.left; outp
 
 -- A script's tape isn't both short enough and too long.
 abbrev LongTape : ℕ → Deck → Type 0
-LongTape bytes d = HasShortPrograms d × (bytes ≡ length (script_tape d)) × (MOST_TAPE_BYTES < bytes)
+LongTape bytes d = AreShort d × (bytes ≡ length (script_tape d)) × (MOST_TAPE_BYTES < bytes)
 
 long_tape : (d : Deck) (bytes : ℕ) → length (script_tape d) ≤ MOST_TAPE_BYTES → LongTape bytes d → ⊥
 long_tape d bytes few long = let counted = long.1 in let above = long.2 in omega arith
 
-script_runs : (deck : List ℕ) (before : ShelfState) → OfDeck deck before (λ d. HasShortPrograms d × (length (script_tape d) ≤ MOST_TAPE_BYTES)) → OfDeck deck before HasShortPrograms
+script_runs : (deck : List ℕ) (before : ShelfState) → OfDeck deck before (λ d. AreShort d × (length (script_tape d) ≤ MOST_TAPE_BYTES)) → OfDeck deck before AreShort
 script_runs deck before suits = where_so (before.told.file deck) _ _ (λ bytes h. (h.0, (h.1.0, h.1.1, h.1.2.0))) suits
 
 script_fits : (deck : List ℕ) (tape : Option (List ℕ)) (before now : ShelfState) (s : Status) → TellsInputs (script_meaning deck tape) before
-    → OfDeck deck before (λ d. HasShortPrograms d × (length (script_tape d) ≤ MOST_TAPE_BYTES)) → NoCountRose before.faults now.faults → ScriptCause deck before now s → s ≡ status.NoMemory
+    → OfDeck deck before (λ d. AreShort d × (length (script_tape d) ≤ MOST_TAPE_BYTES)) → NoCountRose before.faults now.faults → ScriptCause deck before now s → s ≡ status.NoMemory
 unfolding ScriptCause
 script_fits deck tape before now (status.TooLong bytes) told suits calm h =
     let known = told deck refl in
-    let two = both deck before known.0 (λ d. HasShortPrograms d × (length (script_tape d) ≤ MOST_TAPE_BYTES)) (LongTape bytes) known.1 suits (of_had deck before (LongTape bytes) h) in
+    let two = both deck before known.0 (λ d. AreShort d × (length (script_tape d) ≤ MOST_TAPE_BYTES)) (LongTape bytes) known.1 suits (of_had deck before (LongTape bytes) h) in
     absurd (long_tape two.0 bytes two.1.1 two.2)
 script_fits deck tape before now s told suits calm h =
     let known = told deck refl in
@@ -85,9 +85,9 @@ pub script_one : (deck : List ℕ) (tape : Option (List ℕ)) (before other : Sh
 unfolding ScriptGives
 script_one deck tape before other a b same first second =
     let told = same deck refl in
-    let x = deck_told deck before told.0 (λ d. HasShortPrograms d × (length (script_tape d) ≤ MOST_TAPE_BYTES) × IsTrueScript d × (a ≡ script_given d)) told.1 (of_had deck before _ first.1) in
-    let y = deck_told deck other told.0 (λ d. HasShortPrograms d × (length (script_tape d) ≤ MOST_TAPE_BYTES) × IsTrueScript d × (b ≡ script_given d)) told.2 (of_had deck other _ second.1) in
+    let x = deck_told deck before told.0 (λ d. AreShort d × (length (script_tape d) ≤ MOST_TAPE_BYTES) × IsTrueScript d × (a ≡ script_given d)) told.1 (of_had deck before _ first.1) in
+    let y = deck_told deck other told.0 (λ d. AreShort d × (length (script_tape d) ≤ MOST_TAPE_BYTES) × IsTrueScript d × (b ≡ script_given d)) told.2 (of_had deck other _ second.1) in
     x.1.2.3 ∙ ap script_given (one_deck told.0 x.1.0 y.1.0 x.1.1 y.1.1) ∙ sym y.1.2.3
 
 pub script_facts : (deck : List ℕ) (tape : Option (List ℕ)) → CommandFacts (script_meaning deck tape)
-script_facts deck tape = record { sound = script_sound deck tape; inputs = record { fits = λ before now s told suits. script_fits deck tape before now s told (of_had deck before (λ d. HasShortPrograms d × (length (script_tape d) ≤ MOST_TAPE_BYTES)) suits) } }
+script_facts deck tape = record { sound = script_sound deck tape; inputs = record { fits = λ before now s told suits. script_fits deck tape before now s told (of_had deck before (λ d. AreShort d × (length (script_tape d) ≤ MOST_TAPE_BYTES)) suits) } }

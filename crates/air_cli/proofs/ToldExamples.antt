@@ -28,11 +28,11 @@ use Rattle.item_catalog.specs.Grammar.{RecordsSpell, Spells}
 use Rattle.item_catalog.proofs.GrammarLemmas.{one_deck}
 use Rattle.live_replay.specs.AuditAnswers.{CanBeAudited}
 use Rattle.live_replay.proofs.AuditExamples.{can_be_audited, its_bytes, small, small_is_deck}
+use Rattle.chunk_program.specs.Plans.{AreShort}
 use Rattle.air_cli.specs.Audit.{HasReport, audit_meaning}
 use Rattle.air_cli.specs.NamedDecks.{HasDeck, SpellsDeck}
 use Rattle.air_cli.specs.Plan.{plan_meaning}
 use Rattle.air_cli.specs.Run.{CanRun, run_meaning}
-use Rattle.air_cli.specs.RunnableDecks.{HasShortPrograms}
 use Rattle.air_cli.specs.Script.{script_meaning}
 use Rattle.air_cli.specs.ToldInputs.{TellsInputs}
 use Rattle.air_cli.specs.Tune.{tune_meaning}
@@ -83,7 +83,7 @@ pub run_bytes : run_tape_len small ≡ 720
 unfolding order order_with cut program least_common_multiple num_minors num_chunks chunk_len chunk minor_cycle
 run_bytes = run_size small refl
 
-pub short : HasShortPrograms small
+pub short : AreShort small
 short = short_programs small refl (omega (arith, two_slots))
 
 pub can_run : CanRun small
@@ -108,7 +108,7 @@ spells_deck = (omega arith, spells)
 no_other_deck : SpellsDeck (codes "d") shelf (record small { items = [] }) → ⊥
 no_other_deck h = let items : 0 ≡ 2 = ap (λ (d : Deck). length d.items) (one_deck its_deck (record small { items = [] }) small h.1 spells) in omega (arith, items)
 
-has_deck : HasDeck (codes "d") shelf HasShortPrograms
+has_deck : HasDeck (codes "d") shelf AreShort
 has_deck = (small, spells_deck, small_is_deck, short)
 
 -- There is no deck with an impossible property.

@@ -12,8 +12,8 @@ use Rattle.air_model.specs.Aired.{air_of, buckets_of}
 use Rattle.air_model.specs.AiredLaws.{CanAir}
 use Rattle.air_model.specs.Outputs.{ether_of, odds_in}
 use Rattle.air_model.specs.Programs.{program}
+use Rattle.chunk_program.specs.Plans.{AreShort}
 use Rattle.air_cli.proofs.ModelLaws.{BytesLaw, EventsLaw, HeardWasPushedLaw, ReceiverLaw, ScriptLaw}
-use Rattle.air_cli.specs.RunnableDecks.{HasShortPrograms}
 use Rattle.air_model.proofs.DeckLemmas.{each_edition}
 use Rattle.air_sender.proofs.TapeLemmas.{slots_short}
 use Rattle.air_sender.proofs.TapeSizes.{starts_script}
@@ -22,12 +22,12 @@ use Rattle.air_cli.specs.Truths.{IsTrueScript, IsTrueTape}
 -- ---- the programs
 
 -- If a deck has no replans, only its own program has to be short enough.
-pub short_programs : (d : Deck) → d.replans ≡ [] → length (program (disks_in d 0)) ≤ MOST_SLOTS → HasShortPrograms d
+pub short_programs : (d : Deck) → d.replans ≡ [] → length (program (disks_in d 0)) ≤ MOST_SLOTS → AreShort d
 short_programs d none short = each_edition (λ specs. length (program (cut (order (rates_in d)) specs)) ≤ MOST_SLOTS) d none short
 
 -- ---- the script
 
-pub can_air : (d : Deck) → IsDeck d → WithinLimits d → HasShortPrograms d → ScriptLaw → CanAir d (script_history d)
+pub can_air : (d : Deck) → IsDeck d → WithinLimits d → AreShort d → ScriptLaw → CanAir d (script_history d)
 can_air d made limits short script = record {
   made = made;
   legal = script d made.script;
@@ -35,7 +35,7 @@ can_air d made limits short script = record {
   slots = slots_short d short;
 }
 
-pub true_script : (d : Deck) → IsDeck d → WithinLimits d → HasShortPrograms d → ScriptLaw → EventsLaw → BytesLaw → HeardWasPushedLaw → ReceiverLaw → IsTrueScript d
+pub true_script : (d : Deck) → IsDeck d → WithinLimits d → AreShort d → ScriptLaw → EventsLaw → BytesLaw → HeardWasPushedLaw → ReceiverLaw → IsTrueScript d
 unfolding heard_by
 true_script d made limits short script events bytes pushed receiver =
     let H = script_history d in

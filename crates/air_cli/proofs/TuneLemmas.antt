@@ -15,8 +15,9 @@ use Rattle.air_model.specs.Judges.{by_entries}
 use Rattle.air_model.specs.Outputs.{sessions_over, tune_output}
 use Rattle.air_model.specs.Reports.{Report, report_text, verdict_lines}
 use Rattle.air_model.specs.Tapes.{tape_read}
+use Rattle.chunk_program.specs.Plans.{AreShort}
 use Rattle.air_cli.specs.NamedDecks.{DeckCause, HasDeck}
-use Rattle.air_cli.specs.RunnableDecks.{HasShortPrograms, UnrunnableCause}
+use Rattle.air_cli.specs.RunnableDecks.{UnrunnableCause}
 use Rattle.air_cli.specs.NamedFiles.{HasBytes, UnreadCause}
 use Rattle.item_catalog.proofs.GrammarLemmas.{one_deck}
 use Rattle.air_cli.specs.Tune.{TuneCause, tune_meaning}
@@ -41,7 +42,7 @@ unrunnable_tune deck tape before now (status.TapeCut at) h = absurd h
 unrunnable_tune deck tape before now s h = inl h
 
 -- A tape that can't be heard gives no report.
-pub unheard_tune : (deck tape : List ℕ) (before now : ShelfState) (s : Status) → HasDeck deck before HasShortPrograms → UnheardCause tape MOST_TAPE_BYTES before now s → TuneCause deck tape before now s
+pub unheard_tune : (deck tape : List ℕ) (before now : ShelfState) (s : Status) → HasDeck deck before AreShort → UnheardCause tape MOST_TAPE_BYTES before now s → TuneCause deck tape before now s
 unfolding TuneCause UnheardCause
 unheard_tune deck tape before now (status.TapeCut at) can h = (can, h)
 unheard_tune deck tape before now s can h = inr (can, h)
@@ -112,7 +113,7 @@ abbrev IsCutAt : ℕ → List ℕ → Type 0
 IsCutAt at bytes = (length bytes ≤ MOST_TAPE_BYTES) × ((tape_read bytes).cut ≡ Some at)
 
 -- A tape that is whole isn't cut.
-tape_fits : (deck tape : List ℕ) (before now : ShelfState) (s : Status) → TellsInputs (tune_meaning deck tape) before → OfDeck deck before HasShortPrograms
+tape_fits : (deck tape : List ℕ) (before now : ShelfState) (s : Status) → TellsInputs (tune_meaning deck tape) before → OfDeck deck before AreShort
     → WhereTold (before.told.file tape) (λ bytes. (length bytes ≤ MOST_TAPE_BYTES) × ((tape_read bytes).cut ≡ None)) → NoCountRose before.faults now.faults → TuneCause deck tape before now s → s ≡ status.NoMemory
 unfolding TuneCause
 tape_fits deck tape before now (status.TapeCut at) told runs whole calm h =
@@ -131,8 +132,8 @@ pub tune_one : (deck tape : List ℕ) (before other : ShelfState) (a b : ReportA
 unfolding TuneGives
 tune_one deck tape before other a b same first second =
     let told = same deck (inl refl) in
-    let x = deck_told deck before told.0 (λ d. HasShortPrograms d × HasBytes tape before (IsTuned d a)) told.1 (of_had deck before _ first.1) in
-    let y = deck_told deck other told.0 (λ d. HasShortPrograms d × HasBytes tape other (IsTuned d b)) told.2 (of_had deck other _ second.1) in
+    let x = deck_told deck before told.0 (λ d. AreShort d × HasBytes tape before (IsTuned d a)) told.1 (of_had deck before _ first.1) in
+    let y = deck_told deck other told.0 (λ d. AreShort d × HasBytes tape other (IsTuned d b)) told.2 (of_had deck other _ second.1) in
     let heard = same tape (inr refl) in
     let v = of_told (before.told.file tape) heard.0 (IsTuned x.1.0 a) heard.1 (of_bytes tape before (IsTuned x.1.0 a) x.1.2.1) in
     let w = of_told (other.told.file tape) heard.0 (IsTuned y.1.0 b) heard.2 (of_bytes tape other (IsTuned y.1.0 b) y.1.2.1) in
@@ -141,5 +142,5 @@ tune_one deck tape before other a b same first second =
 pub tune_facts : (deck tape : List ℕ) → CommandFacts (tune_meaning deck tape)
 tune_facts deck tape = record {
   sound = tune_sound deck tape;
-  inputs = record { fits = λ before now s told suits. tape_fits deck tape before now s told (of_had deck before HasShortPrograms suits.0) (of_bytes tape before (λ bytes. (length bytes ≤ MOST_TAPE_BYTES) × ((tape_read bytes).cut ≡ None)) suits.1) };
+  inputs = record { fits = λ before now s told suits. tape_fits deck tape before now s told (of_had deck before AreShort suits.0) (of_bytes tape before (λ bytes. (length bytes ≤ MOST_TAPE_BYTES) × ((tape_read bytes).cut ≡ None)) suits.1) };
 }

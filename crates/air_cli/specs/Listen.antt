@@ -1,5 +1,6 @@
 -- The command `listen DECK PORT`. Its meaning is also about the ear, before and after the call.
 use Rattle.std.specs.Prelude.{◌≡◌, ◌<◌, ◌≤◌, ℕ, false, List, Some, ⊤}
+use Rattle.chunk_program.specs.Plans.{AreShort}
 use Rattle.air_cli.specs.Hearings.{IsHeardOnEar, TakesJust, TakesUpTo}
 use Rattle.air_devices.specs.Counts.{Rose}
 use Rattle.air_devices.specs.Ears.{EarState}
@@ -8,7 +9,7 @@ use Rattle.air_model.specs.Decks.{Deck, IsDeck}
 use Rattle.air_report.specs.declared.status.Status.{Status}
 use Rattle.air_report.specs.declared.status.Status.TheVariants as status
 use Rattle.air_cli.specs.NamedDecks.{HasDeck, SpellsDeck}
-use Rattle.air_cli.specs.RunnableDecks.{HasShortPrograms, UnrunnableCause}
+use Rattle.air_cli.specs.RunnableDecks.{UnrunnableCause}
 use Rattle.air_cli.specs.ReportsAndTapes.{ReportAndTape}
 use Rattle.air_cli.specs.Meanings.{Meaning, no_command}
 use Rattle.air_cli.specs.Truths.{IsTrueTape}
@@ -40,7 +41,7 @@ pub record HasHeardPort (d : Deck) (on : ℕ) (before now : EarState) : Type 0 w
 -- is as it was.
 unfoldable pub ListenCause : List ℕ → ℕ → EarState → EarState → ShelfState → ShelfState → Status → Type 0
 ListenCause deck on old new before now (status.AirFault at) =
-    (d : Deck) × SpellsDeck deck before d × IsDeck d × HasShortPrograms d × IsBrokenListening d on at old new
+    (d : Deck) × SpellsDeck deck before d × IsDeck d × AreShort d × IsBrokenListening d on at old new
 ListenCause deck on old new before now status.NoMemory = ⊤
 ListenCause deck on old new before now s = UnrunnableCause deck before now s × (new ≡ old)
 
@@ -48,13 +49,13 @@ ListenCause deck on old new before now s = UnrunnableCause deck before now s × 
 -- it is told. Nothing in it differs.
 unfoldable pub ListenGives : List ℕ → ℕ → EarState → EarState → ShelfState → ReportAndTape → Type 0
 ListenGives deck on old new before given =
-    (given.differs ≡ false) × ((d : Deck) × SpellsDeck deck before d × IsDeck d × HasShortPrograms d × ((heard : List (List ℕ)) × IsListening d on old new given heard))
+    (given.differs ≡ false) × ((d : Deck) × SpellsDeck deck before d × IsDeck d × AreShort d × ((heard : List (List ℕ)) × IsListening d on old new given heard))
 
 -- It reads its deck, which must be one that can be run, and writes no output. It succeeds if no call of the ear failed.
 abbrev pub listen_meaning : List ℕ → ℕ → EarState → EarState → Meaning
 listen_meaning deck on old new = record no_command {
   IsInput = λ name. name ≡ deck;
-  Suits = λ before. HasDeck deck before HasShortPrograms × (Rose old.faults new.faults → ⊥);
+  Suits = λ before. HasDeck deck before AreShort × (Rose old.faults new.faults → ⊥);
   Refuses = ListenCause deck on old new;
   Gives = ListenGives deck on old new;
 }

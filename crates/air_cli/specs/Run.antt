@@ -5,7 +5,8 @@ use Rattle.air_devices.specs.Shelves.{ShelfState}
 use Rattle.air_model.specs.Decks.{Deck, IsDeck}
 use Rattle.air_report.specs.declared.status.Status.{Status}
 use Rattle.air_report.specs.declared.status.Status.TheVariants as status
-use Rattle.air_cli.specs.RunnableDecks.{HasShortPrograms, UnrunnableCause}
+use Rattle.chunk_program.specs.Plans.{AreShort}
+use Rattle.air_cli.specs.RunnableDecks.{UnrunnableCause}
 use Rattle.air_cli.specs.NamedDecks.{HasDeck, SpellsDeck}
 use Rattle.air_cli.specs.ReportsAndTapes.{ReportAndTape}
 use Rattle.air_model.specs.Runs.{Run}
@@ -15,11 +16,11 @@ use Rattle.air_cli.specs.Meanings.{Meaning, no_command}
 
 -- A deck can be run: its programs are short enough, and so is the tape of each of its runs.
 abbrev pub CanRun : Deck → Type 0
-CanRun d = HasShortPrograms d × (run_tape_len d ≤ MOST_TAPE_BYTES)
+CanRun d = AreShort d × (run_tape_len d ≤ MOST_TAPE_BYTES)
 
 -- Why it is refused: its deck can't be run; or it could be, but the tape would have this number of bytes, more than a tape may have.
 unfoldable pub RunCause : List ℕ → ShelfState → ShelfState → Status → Type 0
-RunCause deck before now (status.TooLong bytes) = HasDeck deck before (λ d. HasShortPrograms d × (bytes ≡ run_tape_len d) × (MOST_TAPE_BYTES < bytes))
+RunCause deck before now (status.TooLong bytes) = HasDeck deck before (λ d. AreShort d × (bytes ≡ run_tape_len d) × (MOST_TAPE_BYTES < bytes))
 RunCause deck before now s = UnrunnableCause deck before now s
 
 -- What it gives: the report and the tape of a run of some well-made deck that can be run, that of the named file if it is told. All that is true of a

@@ -2,14 +2,10 @@
 use Rattle.std.specs.Prelude.{ℕ, List, ⊤}
 use Rattle.air_devices.specs.Shelves.{ShelfState}
 use Rattle.air_model.specs.Decks.{Deck}
-use Rattle.chunk_program.specs.Plans.{AreShort, IsFirstTooLong}
+use Rattle.chunk_program.specs.Plans.{IsFirstTooLong}
 use Rattle.air_report.specs.declared.status.Status.{Status}
 use Rattle.air_report.specs.declared.status.Status.TheVariants as status
 use Rattle.air_cli.specs.NamedDecks.{DeckCause, HasDeck}
-
--- No program of the deck has more slots than a program may have.
-abbrev pub HasShortPrograms : Deck → Type 0
-HasShortPrograms d = AreShort d
 
 -- Why the deck isn't planned: one of its programs would be too long, and the first such program has this number of slots.
 unfoldable pub LengthCause : Deck → Status → Type 0

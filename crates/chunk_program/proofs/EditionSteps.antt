@@ -1,18 +1,18 @@
 -- The plans of a deck: what each edition's program is, which edition a cycle has, and how the lists of plans grow.
 use Rattle.std.proofs.Common.{◌≡◌, ◌≤◌, ◌<◌, ◌↔◌, ◌+◌, ◌-◌, ◌++◌, ℕ, zero, suc, Bool, true, false, cond, nat_le, Some, List, [], ◌∷◌, length, get_or, slice_get, map, min, take, refl, sym, subst, ap, ◌∙◌, arith}
-use Rattle.std.specs.Prelude.{IfSome, count_by}
+use Rattle.std.specs.Prelude.{IfSome, IsTrue, count_by}
 use Rattle.std.specs.List.{All, AllPairs, enumerate_from, range_with_len}
-use Rattle.std.proofs.lemmas.Bool.{leb-false, leb-true}
+use Rattle.std.proofs.lemmas.Bool.{le-leb, leb-false, leb-true}
 use Rattle.std.proofs.lemmas.List.{get_or-map, length-map, map_more, take_more}
 use Rattle.std.proofs.lemmas.List.Elements.{All-map}
 use Rattle.std.proofs.lemmas.List.FromFn.{get_or-enumerate_from, get_or-map-range_with_len, length-enumerate_from, length-map-range_with_len, map-range_with_len_more}
-use Rattle.std.proofs.lemmas.List.Sums.{sum_by-cons}
+use Rattle.std.proofs.lemmas.List.Sums.{count_by-le-length, sum_by-cons}
 use Rattle.std.proofs.lemmas.Simd.{map-map}
 use Rattle.std.proofs.lemmas.Option.{get_or_from_slice_get, slice_get-get_or}
 use Rattle.air_base.specs.declared.limits.TheConstants.{MOST_SLOTS}
 use Rattle.air_model.specs.Aired.{air_of}
 use Rattle.air_model.specs.Airings.{pix_number}
-use Rattle.air_model.specs.Disks.{all_items}
+use Rattle.air_model.specs.Disks.{DiskSpec, all_items}
 use Rattle.air_model.specs.Decks.{Deck, IsDeck, Item, Replan, count_editions, disks_in, edition, no_replan, rates_in, specs_in}
 use Rattle.air_model.specs.Programs.{program}
 use Rattle.air_model.proofs.EditionLemmas.{edition_is, edition_within}
@@ -32,6 +32,20 @@ replan_specs_are deck zero k r is at = absurd (omega arith)
 replan_specs_are deck (suc j) k r is at =
     let same : k ≡ j = omega arith in
     ap (λ (r : Replan). r.disks) (sym (get_or_from_slice_get deck.replans k r no_replan at)) ∙ ap (λ i. (get_or deck.replans i no_replan).disks) same
+
+-- So their number and their frequencies are those of the deck's disks, or of the replan's.
+pub own_count : (d : Deck) (e n : ℕ) → e ≡ 0 → n ≡ length d.disks → n ≡ length (specs_in d e)
+own_count d e n own count = count ∙ ap length (own_specs_are d e own)
+
+pub replan_count : (d : Deck) (e k n : ℕ) (r : Replan) → e ≡ k + 1 → slice_get d.replans k ≡ Some r → n ≡ length r.disks → n ≡ length (specs_in d e)
+replan_count d e k n r after at count = count ∙ ap length (replan_specs_are d e k r after at)
+
+pub own_freq : (d : Deck) (e n f : ℕ) → e ≡ 0 → IfSome (slice_get d.disks n) (λ spec. f ≡ spec.freq) → IfSome (slice_get (specs_in d e) n) (λ spec. f ≡ spec.freq)
+own_freq d e n f own freq = subst (λ (specs : List DiskSpec). IfSome (slice_get specs n) (λ spec. f ≡ spec.freq)) (own_specs_are d e own) freq
+
+pub replan_freq : (d : Deck) (e k n f : ℕ) (r : Replan) → e ≡ k + 1 → slice_get d.replans k ≡ Some r → IfSome (slice_get r.disks n) (λ spec. f ≡ spec.freq)
+    → IfSome (slice_get (specs_in d e) n) (λ spec. f ≡ spec.freq)
+replan_freq d e k n f r after at freq = subst (λ (specs : List DiskSpec). IfSome (slice_get specs n) (λ spec. f ≡ spec.freq)) (replan_specs_are d e k r after at) freq
 
 -- ---- lists that grow
 pub cycle_more : (rs : List Replan) (k c : ℕ) (r : Replan) → k < length rs → slice_get rs k ≡ Some r → c ≡ r.cycle → map (λ (r : Replan). r.cycle) (take k rs) ++ c ∷ [] ≡ map (λ (r : Replan). r.cycle) (take (k + 1) rs)
@@ -167,6 +181,15 @@ in_force_from (x ∷ xs) (suc e) c rising below =
     by_some : (e < count_by (λ at. nat_le at c) xs → get_or xs e 0 ≤ c) → suc e < count_by (λ at. nat_le at c) (x ∷ xs) → (b : Bool) → nat_le x c ≡ b → get_or xs e 0 ≤ c
     by_some more some true t = more (let n = one_more x c xs ∙ ap (λ b. cond b 1 0 + count_by (λ at. nat_le at c) xs) t in omega arith)
     by_some more some false f = absurd (let none = no_more x c xs (leb-false x c f) rising in omega arith)
+
+-- The replan at a place is in force in a cycle, if it is there.
+pub begun_told : (xs : List ℕ) (e at c : ℕ) → AllPairs (λ a b. a < b) xs → e < length xs → at ≡ get_or xs e 0 → IsTrue (nat_le at c) ↔ (e < count_by (λ at. nat_le at c) xs)
+begun_told xs e at c rising below is =
+    let from = in_force_from xs e c rising below in
+    (λ t. from.0 (let low = leb-true at c t in omega arith), λ more. le-leb at c (let low = from.1 more in omega arith))
+
+pub begun_past : (xs : List ℕ) (e c : ℕ) → length xs ≤ e → e < count_by (λ at. nat_le at c) xs → ⊥
+begun_past xs e c past more = let most = count_by-le-length (λ at. nat_le at c) xs in omega arith
 
 -- So the cycles before a replan are those of the editions before.
 pub up_to_told : (plans : Plans) (xs : List ℕ) (e next cycles r : ℕ) → xs ≡ plans.replans → AllPairs (λ a b. a < b) plans.replans → e < length xs → next ≡ get_or xs e 0 → 1 ≤ next → r ≡ min (next - 1) cycles

@@ -14,7 +14,7 @@ pub record IsHome (disks : List Disk) (i : ℕ) (h : Home) : Type 0 where
   pub first : h.first ≡ next_wake (program disks) 0 i
   pub chunks : h.chunks ≡ chunks_of disks i
 
--- The first slot of the item at a place of a disk, whose chunks begin behind so many slots of a minor cycle.
+-- The first slot of the item at a place of a disk, whose chunks begin after this number of slots of a minor cycle.
 abbrev pub first_slot : ℕ → ℕ → ℕ → ℕ → Disk → ℕ
 first_slot minors minor_slots slots_before place d = place / chunk_len minors d * minor_slots + (slots_before + place % chunk_len minors d)
 

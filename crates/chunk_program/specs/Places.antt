@@ -1,4 +1,4 @@
--- Where an item stands in a cut: on its disk, at a place.
+-- Where an item is in a cut: on its disk, at a place.
 use Rattle.std.specs.Prelude.{ℕ, ◌==◌, List, slice_get}
 use Rattle.std.specs.List.{position_or_len}
 use Rattle.std.specs.Option.{option_map_or}

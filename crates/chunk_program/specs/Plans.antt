@@ -7,7 +7,7 @@ use Rattle.air_model.specs.Programs.{program}
 use Rattle.chunk_program.specs.declared.programs.PlanFault.{PlanFault}
 use Rattle.chunk_program.specs.declared.programs.PlanFault.TheVariants as fault
 
--- The program of the disks has so many slots, more than it may.
+-- The program of the disks has this number of slots, more than it may have.
 pub record IsTooLong (disks : List Disk) (slots : ℕ) : Type 0 where
   pub counted : slots ≡ length (program disks)
   pub above : MOST_SLOTS < slots
@@ -17,7 +17,7 @@ abbrev pub IsPlanAnswer : List Disk → PlanFault → Type 0
 IsPlanAnswer disks (fault.TooLong slots) = IsTooLong disks slots
 IsPlanAnswer disks fault.NoMemory = ⊤
 
--- The first so many editions of the deck aren't too long.
+-- The first n editions of the deck aren't too long.
 abbrev pub AreShortBelow : Deck → ℕ → Type 0
 AreShortBelow deck n = (e : ℕ) → e < n → length (program (disks_in deck e)) ≤ MOST_SLOTS
 
@@ -25,7 +25,7 @@ AreShortBelow deck n = (e : ℕ) → e < n → length (program (disks_in deck e)
 abbrev pub AreShort : Deck → Type 0
 AreShort deck = AreShortBelow deck (count_editions deck)
 
--- The least edition of the deck that is too long has so many slots.
+-- The least edition of the deck that is too long has this number of slots.
 pub record IsFirstTooLong (deck : Deck) (slots : ℕ) : Type 0 where
   pub edition : ℕ
   pub within : edition < count_editions deck

@@ -55,7 +55,7 @@ impl Disk {
         self.freq
     }
 
-    /// The number of the disk's chunks, where there are so many minor cycles.
+    /// The number of the disk's chunks in a program of `minors` minor cycles.
     pub fn chunks(&self, minors: u64) -> u64
         requires { 0 < self.now.freq }
         ensures { result ≡ num_chunks minors self.now }

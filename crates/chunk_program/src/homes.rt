@@ -27,7 +27,7 @@ pub struct Home {
     pub chunks: u32,
 }
 
-/// The home of the item at a place of a disk of this number, whose chunks begin behind so many slots of a minor cycle.
+/// The home of the item at a place of a disk of this number, whose chunks begin after `slots_before` slots of a minor cycle.
 fn home_at(
     disk: &Disk,
     number: u32,

@@ -8,6 +8,7 @@
 pub mod cuts;
 pub mod cutting;
 mod disks;
+pub mod editions;
 mod homes;
 mod layout;
 pub mod planned;
@@ -17,6 +18,7 @@ pub mod programs;
 
 pub use cuts::Cut;
 pub use cutting::cut;
+pub use editions::{disk_count, disk_freq};
 pub use planned::{Planned, PlannedRef};
 pub use plans::Plans;
 pub use programs::{PlanFault, Program};

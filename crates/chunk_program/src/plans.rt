@@ -3,7 +3,7 @@
 //! Contracts see the cycles of the replans, and of each edition the program and the PIX numbers. All of it is kept once: plans that are
 //! shared count one holder more, and take no memory.
 
-ghost use Rattle.std.specs.Prelude.{◌≡◌, ◌↔◌, ◌<◌, ◌≤◌, ◌+◌, ℕ, [], All, length, get_or, slice_get, Some, IfErr, IfOk};
+ghost use Rattle.std.specs.Prelude.{◌≡◌, ◌↔◌, ◌<◌, ◌≤◌, ◌+◌, ℕ, [], All, AllPairs, length, get_or, slice_get, count_by, nat_le, Some, IfErr, IfOk, IsTrue};
 ghost use Rattle.air_base.specs.declared.limits.TheConstants.{MOST_REPLANS, MOST_SLOTS};
 ghost use Rattle.air_model.specs.Disks.{all_items};
 ghost use Rattle.air_model.specs.Decks.{Deck as ModelDeck, edition};
@@ -106,7 +106,19 @@ impl Plans {
         edition
     }
 
-    /// How many of the first so many cycles are of this edition or of one before.
+    /// Whether an edition is the one in force in a cycle. It costs two comparisons, regardless of the number of replans.
+    pub fn is_in_force(&self, edition: u32, cycle: u32) -> bool
+        ensures told { IsTrue result ↔ (planned_edition self.now cycle ≡ edition) }
+        ensures within { IsTrue result → edition < length self.now.programs }
+    {
+        let cycles = self.table.cycles.as_slice();
+        if has_begun(cycles, edition, cycle) {
+            return false;
+        }
+        edition == 0 || has_begun(cycles, edition - 1, cycle)
+    }
+
+    /// How many of the cycles from 1 to `cycles` are of this edition or of one before.
     pub fn cycles_up_to(&self, edition: u32, cycles: u32) -> u32
         requires { edition < length self.now.programs }
         ensures within { result ≤ cycles }
@@ -143,5 +155,16 @@ impl Plans {
         ensures { result.now ≡ get_or self.now.pix edition [] }
     {
         self.table.pix[edition as usize].as_slice()
+    }
+}
+
+/// Whether the replan at a place of the list is there, and is in force in a cycle.
+fn has_begun(cycles: &[u32], place: u32, cycle: u32) -> bool
+    requires { AllPairs (λ a b. a < b) cycles.now }
+    ensures { IsTrue result ↔ (place < count_by (λ at. nat_le at cycle) cycles.now) }
+{
+    match cycles.get(place as usize) {
+        Some(at) => *at <= cycle,
+        None => false,
     }
 }

@@ -30,7 +30,7 @@ use std::marker::Model;
 /// Why there is no program.
 #[derive(Clone, Copy, Debug, PartialEq, Eq)]
 pub enum PlanFault {
-    /// The program would have so many slots, more than `MOST_SLOTS`.
+    /// The program would have this number of slots, which is more than `MOST_SLOTS`.
     TooLong { slots: u64 },
     /// There was no memory.
     NoMemory,
@@ -58,7 +58,7 @@ impl From<NoMemory> for PlanFault {
     }
 }
 
-/// What could not be stored, as by `Vec::push`, is let go.
+/// What could not be stored, as by `Vec::push`, is dropped.
 impl<T: Drop> From<AllocFailed<T>> for PlanFault {
     ghost use Rattle.std.specs.Prelude.{◌≡◌};
     ghost use Rattle.chunk_program.specs.declared.programs.PlanFault.TheVariants.{NoMemory};
@@ -214,7 +214,7 @@ impl Program {
         self.disks[d as usize].chunk_len(u64::from(self.minors)) as u32
     }
 
-    /// The item of a slot; none where it is idle.
+    /// The item of a slot; nothing if it is idle.
     pub fn slot_item(&self, slot: u32) -> Option<u16>
         requires { slot < length (program self.now.disks) }
         ensures carried { result ≡ slot_item (program self.now.disks) slot }

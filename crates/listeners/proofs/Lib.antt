@@ -10,3 +10,4 @@ pub mod ApartLemmas
 pub mod TogetherLemmas
 mod HistoryLemmas
 pub mod SleepLemmas
+pub mod JudgedLemmas

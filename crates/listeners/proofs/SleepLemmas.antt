@@ -95,6 +95,26 @@ newest_same c now (b ∷ B) some all =
     let own : b.cycle ≡ c = All-head (λ (b : Bucket). b.cycle ≡ c) b B all in
     ap (λ k. newest_of (max now k) B) own ∙ newest_stays c (max now c) B (All-tail (λ (b : Bucket). b.cycle ≡ c) b B all) (omega arith)
 
+-- What holds of the value at each place of a stretch holds of those values.
+pub each_on : {X : Type 0} (on : ℕ → X) (P : X → Type 0) (s k : ℕ) → ((j : ℕ) → j < k → P (on (s + j))) → All P (map on (range_with_len s k))
+each_on on P s k all = λ j d l.
+    let within : j < k = omega (arith, l, length-map-range_with_len on s k) in
+    subst P (sym (get_or-map-range_with_len on s k j (s + j) d within (omega arith))) (all j within)
+
+-- A settled receiver sleeps through buckets of one cycle that fit and that it doesn't want.
+pub slept_through : (n : ℕ) (L : List SessionLine) (old now : Receiver) (c k : ℕ) (B : List Bucket) → IsSettled old → 0 < k → length B ≡ k → All (λ b. b.cycle ≡ c) B
+    → All (IsUnwanted old.air old.reader (after L old.state)) B → now.air ≡ old.air → now.reader ≡ old.reader → now.state ≡ dozed_through k (max old.state.now c) old.state
+    → listening n now L ≡ hears (map Some B) (listening n old L)
+unfolding wanted query_of
+slept_through n L old now c k B settled some long cycles unwanted air reader state =
+    let t = after L old.state in
+    let cycle : newest_of t.now B ≡ max t.now c = newest_same c t.now B (omega arith) cycles in
+    ap (λ a. listener n a now.reader (after L now.state)) air ∙ ap (λ r. listener n old.air r (after L now.state)) reader
+    ∙ ap (λ u. listener n old.air old.reader (after L u)) state
+    ∙ ap (λ m. listener n old.air old.reader (dozed_through k m t)) (sym cycle)
+    ∙ ap (λ k. listener n old.air old.reader (dozed_through k (newest_of t.now B) t)) (sym long)
+    ∙ sym (sleeps n old.air old.reader B t (free_after (wanted old.reader old.state) L old.state settled.free) unwanted)
+
 -- ---- the slots of a cycle
 
 -- What a slot's bucket gives to read is of the slot's item.
@@ -125,12 +145,6 @@ module _ (form : Form) (e : ℕ) (slots : List (Option ℕ)) (board : Board) whe
   unfolding bucket_on
   on_read w s other = body_read w form.policy form.version board.cycle board (get_or slots s None) other
 
-  -- what holds of the bucket of each slot holds of those of a stretch
-  each_on : (P : Bucket → Type 0) (s k : ℕ) → ((j : ℕ) → j < k → P (on (s + j))) → All P (map on (range_with_len s k))
-  each_on P s k all = λ j d l.
-      let within : j < k = omega (arith, l, length-map-range_with_len on s k) in
-      subst P (sym (get_or-map-range_with_len on s k j (s + j) d within (omega arith))) (all j within)
-
   -- so a settled receiver that doesn't want them sleeps through
   pub slept : (n : ℕ) (L : List SessionLine) (old now : Receiver) (s k : ℕ) → IsSettled old → AreFitting old.air form e slots board → 0 < k → s + k ≤ length slots
       → ((j : ℕ) → j < k → IfSome (wanted old.reader old.state) (λ i. get_or slots (s + j) None ≢ Some i)) → now.air ≡ old.air → now.reader ≡ old.reader
@@ -138,16 +152,10 @@ module _ (form : Form) (e : ℕ) (slots : List (Option ℕ)) (board : Board) whe
   unfolding wanted query_of
   slept n L old now s k settled fitting some within other air reader state =
       let B = map on (range_with_len s k) in
-      let long : length B ≡ k = length-map-range_with_len on s k in
       let t = after L old.state in
       let unwanted : All (IsUnwanted old.air old.reader t) B =
-      each_on (IsUnwanted old.air old.reader t) s k (λ j l. record { fitting = fitting (s + j) (omega arith); other = on_read (wanted old.reader old.state) (s + j) (other j l) }) in
-      let cycle : newest_of t.now B ≡ max t.now board.cycle = newest_same board.cycle t.now B (omega arith) (each_on (λ b. b.cycle ≡ board.cycle) s k (λ j l. on_cycle (s + j))) in
-      ap (λ a. listener n a now.reader (after L now.state)) air ∙ ap (λ r. listener n old.air r (after L now.state)) reader
-      ∙ ap (λ u. listener n old.air old.reader (after L u)) state
-      ∙ ap (λ m. listener n old.air old.reader (dozed_through k m t)) (sym cycle)
-      ∙ ap (λ k. listener n old.air old.reader (dozed_through k (newest_of t.now B) t)) (sym long)
-      ∙ sym (sleeps n old.air old.reader B t (free_after (wanted old.reader old.state) L old.state settled.free) unwanted)
+      each_on on (IsUnwanted old.air old.reader t) s k (λ j l. record { fitting = fitting (s + j) (omega arith); other = on_read (wanted old.reader old.state) (s + j) (other j l) }) in
+      slept_through n L old now board.cycle k B settled some (length-map-range_with_len on s k) (each_on on (λ b. b.cycle ≡ board.cycle) s k (λ j l. on_cycle (s + j))) unwanted air reader state
       ∙ ap (λ os. hears os (listening n old L)) (map-map Some on (range_with_len s k))
 
 -- ---- stretches

@@ -1,21 +1,24 @@
 -- Readers that hear a tape together: piece by piece, and where nothing is lost, heard again or delayed.
 -- The calls of `together` and `hearers` cite these.
-use Rattle.std.proofs.Common.{◌≡◌, ℕ, ◌+◌, ◌<◌, ◌≤◌, true, List, [], ◌∷◌, ◌++◌, Option, Result, length, map, get_or, All, refl, sym, ◌∙◌, ap, subst, arith, length-append}
+use Rattle.std.proofs.Common.{◌≡◌, ℕ, ◌+◌, ◌<◌, ◌≤◌, true, List, [], ◌∷◌, ◌++◌, Option, length, map, get_or, All, refl, sym, ◌∙◌, ap, subst, arith, length-append}
 use Rattle.std.specs.Prelude.{IfOk}
 use Rattle.std.specs.List.{range_with_len}
 use Rattle.std.specs.Result.{result_ok}
 use Rattle.std.proofs.lemmas.List.{get_or-map, length-map, map-append, same_lists}
 use Rattle.std.proofs.lemmas.List.Elements.{All-map}
+use Rattle.std.proofs.lemmas.List.FromFn.{get_or-map-range_with_len, length-map-range_with_len}
 use Rattle.std.proofs.lemmas.Simd.{map-map}
-use Rattle.air_model.specs.declared.bucket.BucketFault.{BucketFault}
+use Rattle.air_model.specs.Aired.{Air, air_of}
 use Rattle.air_model.specs.Buckets.{Bucket, IsInRange, bucket_in}
 use Rattle.air_model.specs.Decks.{Deck}
 use Rattle.listeners.specs.declared.ethers.TheConstants.{MOST_TAPE_RECORDS}
+use Rattle.listeners.specs.declared.judged.JudgedPiece.{JudgedPiece}
 use Rattle.listeners.specs.declared.together.TogetherRun.{TogetherRun}
 use Rattle.listeners.specs.EtherListeners.{IsPerfect}
 use Rattle.listeners.specs.Hearings.{AreTogether}
 use Rattle.listeners.specs.Listeners.{Listener, hears, listener_of}
-use Rattle.listeners.specs.Private.TogetherSteps.{CanHear, EachHeard, HasHeardMembers, listeners_in}
+use Rattle.listeners.specs.Private.TogetherSteps.{CanHear, EachHeard, HasHeardMembers, KnowsAir, listeners_in}
+use Rattle.listeners.specs.Private.JudgedPieces.{IsJudged}
 use Rattle.listeners.proofs.HearLemmas.{counted_all, pieces}
 use Rattle.listeners.proofs.ReaderLemmas.{HasRoom, hears_none}
 use Rattle.listeners.proofs.RunLemmas.{clear_heard, ethers_in, readers_over}
@@ -38,8 +41,20 @@ each_heard members before now each done =
         let run : TogetherRun = record { listener = d; done = true } in
         let inside : k < length now = omega (arith, each.0) in
         let within : k < length (map listener_in before) = omega (arith, length-map before listener_in) in
-        get_or-map listener_in now k run d inside ∙ each.1 k run below (done k run inside) ∙ ap (hears members) (sym (get_or-map listener_in before k run d below))
+        get_or-map listener_in now k run d inside ∙ (each.1 k run below).0 (done k run inside) ∙ ap (hears members) (sym (get_or-map listener_in before k run d below))
         ∙ sym (get_or-map (hears members) (map listener_in before) k d d within)
+
+-- Each knows the air that it knew.
+pub each_knows : (air : Air) (members : List (Option Bucket)) (before now : List TogetherRun) → EachHeard members before now → All (KnowsAir air) before → All (KnowsAir air) now
+unfolding HasHeardMembers
+each_knows air members before now each known = λ k d below. let inside : k < length before = omega (arith, each.0) in (each.1 k d inside).1 ∙ known k d inside
+
+-- A deck's readers know its air.
+pub all_know : (deck : Deck) (air : Air) (runs : List TogetherRun) (n : ℕ) → air ≡ air_of deck → listeners_in runs ≡ map (listener_of deck) (range_with_len 0 n) → All (KnowsAir air) runs
+all_know deck air runs n is are = λ k d below.
+    let long : length runs ≡ n = sym (length-map runs listener_in) ∙ ap length are ∙ length-map-range_with_len (listener_of deck) 0 n in
+    let own : get_or (map (listener_of deck) (range_with_len 0 n)) k d.listener ≡ listener_of deck k = get_or-map-range_with_len (listener_of deck) 0 n k k d.listener (omega (arith, below, long)) (omega arith) in
+    ap (λ (l : Listener). l.air) (sym (get_or-map listener_in runs k d d.listener below) ∙ ap (λ ls. get_or ls k d.listener) are ∙ own) ∙ sym is
 
 -- To hear one list and then another is to hear both.
 pub map_pieces : (first second : List (Option Bucket)) (A : List Listener) → map (hears second) (map (hears first) A) ≡ map (hears (first ++ second)) A
@@ -52,18 +67,23 @@ room_left so_far n all A within room =
     All-map (HasRoom n) (hears so_far) A (λ k d below. let counted = counted_all so_far (get_or A k d) in let most = room k d below in omega (arith, counted, most, within))
 
 -- So all can hear the next piece.
-pub can_hear : (records : List (List ℕ)) (so_far : List (Option Bucket)) (piece : List (Result Bucket BucketFault)) (rest : List (Option Bucket)) (before now : List TogetherRun)
-    → All (HasRoom (length records)) (listeners_in before) → map bucket_in records ≡ so_far ++ (map result_ok piece ++ rest) → listeners_in now ≡ map (hears so_far) (listeners_in before)
-    → All (λ heard. IfOk heard IsInRange) piece → All (CanHear piece) now
+pub can_hear : (records : List (List ℕ)) (so_far : List (Option Bucket)) (air : Air) (piece : JudgedPiece) (rest : List (Option Bucket)) (before now : List TogetherRun)
+    → All (HasRoom (length records)) (listeners_in before) → map bucket_in records ≡ so_far ++ (map result_ok piece.heard.items ++ rest) → listeners_in now ≡ map (hears so_far) (listeners_in before)
+    → All (λ heard. IfOk heard IsInRange) piece.heard.items → IsJudged air piece → All (KnowsAir air) now → All (CanHear piece) now
 unfolding CanHear
-can_hear records so_far piece rest before now room all heard range = λ k d below.
-    (range, subst (HasRoom (length piece)) (get_or-map listener_in now k d d.listener below) (left k d.listener (omega (arith, below, length-map now listener_in))))
+can_hear records so_far air piece rest before now room all heard range judged known = λ k d below. (
+  range,
+  subst (HasRoom (length piece.heard.items)) (get_or-map listener_in now k d d.listener below) (left k d.listener (omega (arith, below, length-map now listener_in))),
+  subst (λ a. IsJudged a piece) (sym (known k d below)) judged,
+)
   where
-    within : length so_far + length piece ≤ length records
-    within = omega (arith, ap length all, length-append so_far (map result_ok piece ++ rest), length-append (map result_ok piece) rest, length-map piece result_ok, length-map records bucket_in)
+    within : length so_far + length piece.heard.items ≤ length records
+    within =
+        let members = map result_ok piece.heard.items in
+        omega (arith, ap length all, length-append so_far (members ++ rest), length-append members rest, length-map piece.heard.items result_ok, length-map records bucket_in)
 
-    left : All (HasRoom (length piece)) (map listener_in now)
-    left = subst (All (HasRoom (length piece))) (sym heard) (room_left so_far (length piece) (length records) (listeners_in before) within room)
+    left : All (HasRoom (length piece.heard.items)) (map listener_in now)
+    left = subst (All (HasRoom (length piece.heard.items))) (sym heard) (room_left so_far (length piece.heard.items) (length records) (listeners_in before) within room)
 
 -- ---- a deck's readers, where nothing is lost, heard again or delayed
 

@@ -16,8 +16,8 @@ pub record IsOpen (x : EtherListener) : Type 0 where
   pub quiet : IsQuiet x.ether
   pub counts : heard_count x.listener.state.counts ≤ MOST_DUE * x.ether.pushes
 
--- The ether of this seed and this number was given this pushed list, and of what is due of it so many members were heard: by
--- this listener, which is so afterwards.
+-- The ether of this seed and this number was given this pushed list. Of what is due of it this number of members was heard, by this
+-- listener.
 pub record HeardFrom (seed number : ℕ) (first : Listener) (pushed : List (List ℕ)) (given : ℕ) (e : Ether) (l : Listener) : Type 0 where
   pub follows : IsEtherAfter seed number pushed given e
   pub heard : l ≡ hears (map bucket_in (take given (due_of seed number e.odds pushed e.ended))) first

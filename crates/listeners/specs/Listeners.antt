@@ -28,8 +28,8 @@ judge_of l = by_entries l.air.scheme
 unfoldable pub hears_one : Option Bucket → Listener → Listener
 hears_one member l = record l { state = hear (judge_of l) l.air l.reader member (settle (judge_of l) l.air l.reader l.state) }
 
--- What was read of heard bytes changes no attempt where it is a fault, or a bucket that doesn't fit: beside the count of that
--- name the listener is as it was when it had settled.
+-- What was read of heard bytes changes no attempt if it is a fault, or a bucket that doesn't fit: except for the count of that name
+-- the listener is as it was when it had settled.
 abbrev pub ChangesNoAttempt : Result Bucket BucketFault → Listener → Listener → Type 0
 ChangesNoAttempt (Err fault) before now = now ≡ record before { state = count_refused (settle (judge_of before) before.air before.reader before.state) }
 ChangesNoAttempt (Ok b) before now =

@@ -1,5 +1,6 @@
 -- Definitions that private steps alone speak of: no public contract cites them.
 pub mod ApartSteps
 pub mod Endings
+pub mod JudgedPieces
 pub mod Sleeping
 pub mod TogetherSteps

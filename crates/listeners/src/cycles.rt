@@ -128,8 +128,8 @@ fn hear_cycle(
     Ok(())
 }
 
-/// Lets all hear what a board airs in its cycle by a program, one reader after another, and gives them back; they are let go where memory
-/// runs out. The buffer has room for a bucket's bytes.
+/// Lets all hear what a board airs in its cycle by a program, one reader after another, and gives them back. If memory runs out, they are
+/// dropped. The buffer has room for a bucket's bytes.
 pub fn all_hear_cycle(
     alloc: Global,
     listeners: Vec<Listener>,

@@ -83,7 +83,7 @@ impl EtherListener {
     }
 
     /// Pushes the records of a piece of a tape, one after another, and hears what is due after each. `TapeReader` tells whether a piece
-    /// is whole. It goes on from piece to piece until `end`, or until a call runs out of memory.
+    /// is whole. It continues from piece to piece until `end`, or until a call runs out of memory.
     pub fn hear(&mut self, alloc: Global, piece: &[u8]) -> Result<(), NoMemory>
         requires whole { (tape_read piece.now).cut ≡ None }
         requires open { IsOpen self.old }

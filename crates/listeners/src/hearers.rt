@@ -1,7 +1,7 @@
 //! All readers of a deck, who hear a tape piece by piece: together, or each its own ether.
 //!
-//! Where nothing is lost, heard again or delayed, each ether gives the tape itself: then all hear the same. Else each record is pushed
-//! into every ether. Either way the readers step side by side, and what they come to is what the pieces have in all.
+//! If nothing is lost, heard again or delayed, each ether gives the tape itself: then all hear the same. Else each record is pushed
+//! into every ether. Either way the readers step side by side, and their sessions are those over all pieces together.
 
 ghost use Rattle.std.specs.Prelude.{◌≡◌, ◌↔◌, ◌≤◌, ◌+◌, ◌*◌, ◌++◌, ℕ, List, [], All, IfOk, IsTrue, None, OnOk, length};
 ghost use Rattle.air_model.specs.Aired.{scheme_in};

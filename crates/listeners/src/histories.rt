@@ -1,7 +1,6 @@
 //! The sessions of all readers of a deck over the tape of a history.
 //!
-//! Each reader hears its own ether of the tape and judges by the entries that it hears; over such a tape that comes to what the
-//! history judges.
+//! Each reader hears its own ether of the tape and judges by the entries that it hears; over such a tape that is what the history judges.
 
 ghost use Rattle.std.specs.Prelude.{◌≡◌, ◌≤◌, ◌+◌, ◌*◌, All, List, None, IfOk, length};
 ghost use Rattle.air_base.specs.declared.limits.TheConstants.{MOST_TAPE_BYTES};

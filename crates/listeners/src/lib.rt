@@ -1,9 +1,8 @@
 //! Receivers that hand out their verdict lines: one reader's, and those of all readers of a deck.
 //!
-//! A listener is at each time as the session says that has heard all that it heard so far: so to hear a whole list, or
-//! its pieces one after another, comes to the same. All readers of a deck hear a tape side by side, together or each its own
-//! ether (`hearers`), and what their sessions tell are lines of a report. Over the tape of a history these are what the history
-//! judges (`histories`).
+//! A listener's state is always that of the session over all that it heard so far. So a whole list, heard at once or in pieces one after
+//! another, leaves the same state. All readers of a deck hear a tape side by side, together (`together`) or each its own ether
+//! (`apart`), and their sessions give lines of a report. Over the tape of a history these are what the history judges (`histories`).
 #![tactic(auto)]
 
 mod apart;
@@ -11,6 +10,7 @@ mod cycles;
 mod ethers;
 mod hearers;
 mod histories;
+mod judged;
 pub mod laws;
 mod listener;
 mod pieces;

@@ -2,7 +2,7 @@
 //!
 //! It is seen as its reader's state with every line up to now. It takes the verdicts before each member, and hears it.
 
-ghost use Rattle.std.specs.Prelude.{◌≡◌, ◌⊎◌, ◌<◌, ◌≤◌, ◌+◌, ◌-◌, ◌*◌, ◌^◌, ◌++◌, ◌∷◌, [], IfOk, OnOk, Some, length, map};
+ghost use Rattle.std.specs.Prelude.{◌≡◌, ◌⊎◌, ◌<◌, ◌≤◌, ◌+◌, ◌-◌, ◌*◌, ◌^◌, ◌++◌, ◌∷◌, [], All, IfOk, OnOk, Some, length, map};
 ghost use Rattle.std.specs.List.{range_with_len};
 ghost use Rattle.std.specs.Result.{result_ok};
 ghost use Rattle.air_model.specs.Buckets.{IsInRange, entry_len, most_count};
@@ -15,8 +15,10 @@ ghost use Rattle.receiver_core.specs.Receivers.{heard_count};
 ghost use Rattle.listeners.specs.AiredCycles.{AreFitting};
 ghost use Rattle.listeners.specs.Listeners.{ChangesNoAttempt, end_state, hears, hears_one, listener_of};
 ghost use Rattle.listeners.specs.Private.Endings.{lines_and_counts};
+ghost use Rattle.listeners.specs.Private.JudgedPieces.{IsJudged, member_at};
 
 use crate::cycles::{hear_slot, sleep};
+use crate::judged::{JudgedPiece, sleep_in};
 use crate::readers::Sessions;
 use crate::verdicts::{SessionLine, end_queries, take_verdicts};
 use air_base::{Counts, Form, NoMemory};
@@ -78,7 +80,7 @@ impl Listener {
     }
 
     /// Takes the verdicts before the bucket of a slot, and hears what a board airs in its cycle from this slot on, up to the next wanted
-    /// bucket, or to the end: the slot behind.
+    /// bucket, or to the end: the slot after.
     pub(crate) fn hear_stretch(
         &mut self,
         alloc: Global,
@@ -112,6 +114,31 @@ impl Listener {
         Ok(next + 1)
     }
 
+    /// Takes the verdicts before the member of a place, and hears a judged piece from there on, up to the next member that it wants, or
+    /// to the end of the run: the place after.
+    pub(crate) fn hear_from(
+        &mut self,
+        alloc: Global,
+        piece: &JudgedPiece<'_>,
+        from: usize,
+    ) -> Result<usize, NoMemory>
+        requires from { from < length piece.now.heard.items }
+        requires counts { heard_count self.old.state.counts + (length piece.now.heard.items - from) < 2 ^ 64 }
+        requires range { All (λ heard. IfOk heard IsInRange) piece.now.heard.items }
+        requires judged { IsJudged self.old.air piece.now }
+        ensures next { IfOk result (λ next. (from < next) × (next ≤ length piece.now.heard.items)) }
+        ensures heard { IfOk result (λ next. self.new ≡ hears (map (member_at piece.now.heard.items) (range_with_len from (next - from))) self.old) }
+        ensures air { self.new.air ≡ self.old.air }
+    {
+        take_verdicts(alloc, &mut self.receiver, &mut self.lines)?;
+        let next = sleep_in(&mut self.receiver, piece, from);
+        if next == piece.heard.len() {
+            return Ok(next);
+        }
+        self.receiver.hear(&piece.heard[next]);
+        Ok(next + 1)
+    }
+
     /// The lines of the session that is ended, and its counts.
     fn ended(self, alloc: Global) -> Result<(Vec<SessionLine>, Counts), NoMemory>
         ensures { IfOk result (λ told. (told.0.items, told.1) ≡ lines_and_counts (end_state self)) }
@@ -123,7 +150,7 @@ impl Listener {
         Ok((lines, receiver.counts()))
     }
 
-    /// Ends the session: adds its verdict lines and its counts to those of the sessions before it, which are let go where memory runs out.
+    /// Ends the session: adds its verdict lines and its counts to those of the sessions before it. If memory runs out, these are dropped.
     pub fn end(self, alloc: Global, sessions: Sessions) -> Result<Sessions, NoMemory>
         ensures verdicts { IfOk result (λ s. s.verdicts.items ≡ sessions.verdicts.items ++ map (line_by self.number) (end_state self).lines) }
         ensures counts { IfOk result (λ s. s.counts.items ≡ sessions.counts.items ++ record { reader = self.number; counts = (end_state self).counts } ∷ []) }

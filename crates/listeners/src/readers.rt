@@ -1,7 +1,6 @@
 //! All readers of a deck: as they are before they hear anything, as they hear one member, and what they tell at the end.
 //!
-//! Every reader hears what came of a record, so a bucket that isn't wanted costs it a look at the head, and nothing is
-//! copied. What their sessions come to are the lines of a report.
+//! Every reader hears what `decode` answered of a record, and nothing is copied. Their sessions give the lines of a report.
 
 ghost use Rattle.std.specs.Prelude.{◌≡◌, ◌<◌, ◌+◌, ◌^◌, All, IfOk, length, map};
 ghost use Rattle.std.specs.List.{range_with_len};
@@ -40,7 +39,7 @@ pub fn listeners_of(alloc: Global, planned: &Planned) -> Result<Vec<Listener>, N
     Ok(listeners)
 }
 
-/// Lets all hear one member, and gives them back; they are let go where memory runs out. What `decode` answers is in range.
+/// Lets all hear one member, and gives them back. If memory runs out, they are dropped. What `decode` answers is in range.
 pub fn all_hear(
     alloc: Global,
     listeners: Vec<Listener>,

@@ -11,15 +11,17 @@ ghost use Rattle.air_model.specs.Reports.{counts_lines, verdict_lines};
 ghost use Rattle.air_model.specs.Tapes.{tape_read};
 ghost use Rattle.receiver_core.specs.Receivers.{heard_count};
 ghost use Rattle.listeners.specs.Listeners.{AreNumbered, end_state, hears, listener_of};
-ghost use Rattle.listeners.specs.Private.TogetherSteps.{CanHear, EachHeard, HasHeardMembers, listeners_in};
+ghost use Rattle.air_model.specs.Aired.{Air};
+ghost use Rattle.listeners.specs.Private.TogetherSteps.{CanHear, EachHeard, HasHeardMembers, KnowsAir, listeners_in};
 
+use crate::judged::JudgedPiece;
 use crate::listener::Listener;
 use crate::pieces::{hear_piece, next_piece};
 use crate::readers::{MOST_THREADS, Sessions, end_all};
 use air_base::NoMemory;
-use air_model::bucket::BucketFault;
-use bucket_codec::{BucketView, TapeReader};
-use chunk_program::Planned;
+use bucket_codec::TapeReader;
+use chunk_program::{Planned, PlannedRef};
+use receiver_core::Air;
 use std::alloc::Global;
 use std::marker::Model;
 use std::thread;
@@ -35,9 +37,9 @@ pub(crate) struct TogetherRun {
 impl TogetherRun {
     /// Hears the members of a piece, or until memory runs out.
     #[tactic(auto, unfolding(crate::specs::Private::TogetherSteps::CanHear, crate::specs::Private::TogetherSteps::HasHeardMembers))]
-    fn work(&mut self, alloc: Global, piece: &[Result<BucketView<'_>, BucketFault>])
+    fn work(&mut self, alloc: Global, piece: &JudgedPiece<'_>)
         requires { CanHear piece.now self.old }
-        ensures { HasHeardMembers (map result_ok piece.now) self.old self.new }
+        ensures { HasHeardMembers (map result_ok piece.now.heard.items) self.old self.new }
     {
         self.done = hear_piece(alloc, &mut self.listener, piece).is_ok();
     }
@@ -48,10 +50,10 @@ fn hear_side_by_side<T: Threads + Sync>(
     threads: &T,
     alloc: Global,
     runs: &mut [TogetherRun],
-    piece: &[Result<BucketView<'_>, BucketFault>],
+    piece: &JudgedPiece<'_>,
 )
     requires { All (CanHear piece.now) runs.old }
-    ensures { EachHeard (map result_ok piece.now) runs.old runs.new }
+    ensures { EachHeard (map result_ok piece.now.heard.items) runs.old runs.new }
 {
     thread::for_each_mut(
         threads,
@@ -73,10 +75,11 @@ fn hear_members<T: Threads + Sync>(
     threads: &T,
     alloc: Global,
     runs: &mut [TogetherRun],
-    piece: &[Result<BucketView<'_>, BucketFault>],
+    piece: &JudgedPiece<'_>,
 ) -> Result<(), NoMemory>
     requires { All (CanHear piece.now) runs.old }
-    ensures { OnOk result (listeners_in runs.new ≡ map (hears (map result_ok piece.now)) (listeners_in runs.old)) }
+    ensures heard { OnOk result (listeners_in runs.new ≡ map (hears (map result_ok piece.now.heard.items)) (listeners_in runs.old)) }
+    ensures air { (air : Air) → All (KnowsAir air) runs.old → All (KnowsAir air) runs.new }
 {
     hear_side_by_side(threads, alloc, runs, piece);
     if !are_done(runs) {
@@ -89,18 +92,21 @@ fn hear_members<T: Threads + Sync>(
 fn hear_pieces<T: Threads + Sync>(
     threads: &T,
     alloc: Global,
+    air: &Air,
     runs: &mut [TogetherRun],
     tape: &[u8],
 ) -> Result<(), NoMemory>
     requires whole { (tape_read tape.now).cut ≡ None }
     requires counts { All (λ l. heard_count l.state.counts + length (tape_read tape.now).records < 2 ^ 64) (listeners_in runs.old) }
-    ensures { OnOk result (listeners_in runs.new ≡ map (hears (map bucket_in (tape_read tape.now).records)) (listeners_in runs.old)) }
+    requires air { All (KnowsAir air.now) runs.old }
+    ensures heard { OnOk result (listeners_in runs.new ≡ map (hears (map bucket_in (tape_read tape.now).records)) (listeners_in runs.old)) }
+    ensures air { All (KnowsAir air.now) runs.new }
 {
     let mut records = TapeReader::new(tape);
-    let mut piece = next_piece(alloc, &mut records)?;
-    while !piece.is_empty() {
+    let mut piece = next_piece(alloc, air, &mut records)?;
+    while !piece.heard.is_empty() {
         hear_members(threads, alloc, runs, &piece)?;
-        piece = next_piece(alloc, &mut records)?;
+        piece = next_piece(alloc, air, &mut records)?;
     }
     Ok(())
 }
@@ -117,9 +123,10 @@ fn listeners_of_runs(alloc: Global, runs: Vec<TogetherRun>) -> Result<Vec<Listen
     Ok(listeners)
 }
 
-/// All readers of a deck, who hear the same, side by side: each record is decoded once.
+/// All readers of a deck, who hear the same, side by side: each record is decoded and judged once.
 #[derive(Drop)]
 pub struct Together {
+    air: Air,
     runs: Vec<TogetherRun>,
 }
 
@@ -130,6 +137,11 @@ impl Model for Together {
     ghost Value = { List Listener };
 
     ghost view = { λ t. map (λ run. run.listener) t.runs.items };
+
+    ghost use Rattle.std.specs.Prelude.{All};
+    ghost use Rattle.listeners.specs.Private.TogetherSteps.{KnowsAir};
+
+    ghost invariant = { λ t. All (KnowsAir t.air) t.runs.items };
 }
 
 impl Together {
@@ -137,6 +149,7 @@ impl Together {
     pub fn new(alloc: Global, planned: &Planned) -> Result<Together, NoMemory>
         ensures { IfOk result (λ t. t ≡ map (listener_of planned.now) (range_with_len 0 (length planned.now.readers))) }
     {
+        let air = Air::new(&PlannedRef::of(planned.deck(), planned.plans()))?;
         let mut runs = Vec::new(alloc);
         for r in 0..planned.deck().readers() {
             runs.push(TogetherRun {
@@ -144,7 +157,7 @@ impl Together {
                 done: true,
             })?;
         }
-        Ok(Together { runs })
+        Ok(Together { air, runs })
     }
 
     /// Lets all hear the records of a tape, or of a piece of one. `TapeReader` tells whether a tape is whole.
@@ -158,7 +171,7 @@ impl Together {
         requires counts { All (λ l. heard_count l.state.counts + length (tape_read tape.now).records < 2 ^ 64) self.old }
         ensures { OnOk result (self.new ≡ map (hears (map bucket_in (tape_read tape.now).records)) self.old) }
     {
-        hear_pieces(threads, alloc, &mut self.runs, tape)?;
+        hear_pieces(threads, alloc, &self.air, &mut self.runs, tape)?;
         Ok(())
     }
 

@@ -1,7 +1,7 @@
 //! The verdicts of a receiver, taken as they come: each becomes a line with its reads.
 //!
-//! Before a receiver hears its next bucket it hands out what it has decided; at the end, what is left unfinished. Both
-//! come to what the rules of the session say, since these only add lines and look at none.
+//! Before a receiver hears its next bucket it gives out what it has decided; at the end, what is left unfinished. Both are what the
+//! rules of the session say, since these only add lines and look at none.
 
 ghost use Rattle.std.specs.Prelude.{◌≡◌, ◌++◌, ◌∷◌, [], OnOk};
 ghost use Rattle.air_model.specs.Judges.{by_entries};

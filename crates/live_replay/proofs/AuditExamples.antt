@@ -95,7 +95,7 @@ report = record {
   looks = [];
 }
 
--- What is read of the bytes, where the verdict is told to stand in this row.
+-- What is read of the bytes, if the verdict is told to be in this row.
 abbrev pub read_in : ℕ → ReadReport
 read_in row = record { report = report; verdict_rows = row ∷ []; glance_rows = []; look_rows = [] }
 
@@ -127,7 +127,7 @@ spells = rows_spell
 pub is_report : IsReportOf small its_bytes (read_in 11)
 is_report = record { spelled = spelled_report small its_bytes (lines_in report) spells; verdict_rows = refl; glance_rows = refl; look_rows = refl }
 
--- Not where the verdict is told to stand in another row.
+-- Not if the verdict is told to be in another row.
 not_report : IsReportOf small its_bytes (read_in 10) → ⊥
 not_report h = let rows_are : 10 ∷ [] ≡ 11 ∷ [] = h.verdict_rows in let row : 10 ≡ 11 = ap (λ rs. get_or rs 0 0) rows_are in omega (arith, row)
 
@@ -168,7 +168,7 @@ has_fault = told_fault small faulty 2 6 line_fault
 not_audited : CanBeAudited small faulty → ⊥
 not_audited h = no_report_fault small faulty h.read 2 6 h.is has_fault
 
--- Without a commit nothing is replayed, whatever product is told.
+-- Without a commit nothing is replayed, regardless of the product that is told.
 not_too_much : (product : ℕ) → IsTooMuch small its_bytes product → ⊥
 unfolding replayed_in is_start
 not_too_much product h =

@@ -1,4 +1,4 @@
--- When a line agrees: exactly if the replay gives it, which it does for every line of a session that the history judges.
+-- When a line agrees: if and only if the replay gives it, which it does for every line of a session that the history judges.
 use Rattle.std.proofs.Common.{◌≡◌, ◌↔◌, ℕ, Bool, true, false, not, ◌&&◌, ◌==◌, if◌then◌else◌, Option, Some, None, List, [], ◌∷◌, ◌++◌, get_or, map, All, refl, sym, ◌∙◌, subst}
 use Rattle.std.specs.Prelude.{IsSomeAnd, IfSome, IsTrue}
 use Rattle.std.specs.List.{list_all}
@@ -38,7 +38,7 @@ use Rattle.live_replay.proofs.PassLemmas.{accepts_pass, pass_accepts}
 
 -- ---- one line
 
--- No cause applies exactly if the three tests hold.
+-- No cause applies if and only if the three tests hold.
 chosen : (a b c : Bool) → (if not a then Some cause.Value else if not b then Some cause.Verdict else if not c then Some cause.Clash else None) ≡ None → (a ≡ true) × (b ≡ true) × (c ≡ true)
 chosen true true true h = (refl, refl, refl)
 chosen true true false h = cc
@@ -74,7 +74,7 @@ refused_from policy H R (Abort item cycle named) end =
 refused_from policy H R (Aged item cycle) end = (not_from_false _ end, refl)
 refused_from policy H R Unfinished end = (refl, refl)
 
--- Reads that don't lie too far apart, where nothing or an abort ended the attempt.
+-- Reads that don't lie too far apart, if nothing or an abort ended the attempt.
 not_far : {A : Type 0} (b : Bool) → b ≡ false → b ≡ true → A
 not_far b near far = absurd (false≢true (sym near ∙ far))
 

@@ -1,4 +1,4 @@
--- Facts of findings: none differs exactly where each agrees.
+-- Facts of findings: none differs if and only if each agrees.
 use Rattle.std.proofs.Common.{◌≡◌, ℕ, zero, suc, ◌+◌, Bool, true, false, not, cond, List, [], ◌∷◌, get_or, Option, Some, None, All, count_by, refl, sym, ap, arith, eqb-true}
 use Rattle.std.specs.Prelude.{◌↔◌, ◌==◌}
 use Rattle.std.specs.Option.{is_some}
@@ -15,7 +15,7 @@ Agrees found = found.differs ≡ None
 counts : (found : Finding) (more : List Finding) → count_by differs (found ∷ more) ≡ cond (differs found) 1 0 + count_by differs more
 counts found more = sum_by-cons (λ f. cond (differs f) 1 0) found more
 
--- Where none is counted each agrees.
+-- If none is counted, each agrees.
 none_counted : (found : List Finding) → count_by differs found ≡ 0 → All Agrees found
 none_counted [] h = All-nil Agrees
 none_counted (f ∷ more) h = by f.differs refl (λ none. none_counted more none)
@@ -24,7 +24,7 @@ none_counted (f ∷ more) h = by f.differs refl (λ none. none_counted more none
     by None e rest = All-cons Agrees f more e (rest (let n = counts f more in let one : cond {A = ℕ} (differs f) 1 0 ≡ 0 = ap (λ c. cond (is_some c) 1 0) e in omega (arith, h)))
     by (Some cause) e rest = absurd (let n = counts f more in let one : cond {A = ℕ} (differs f) 1 0 ≡ 1 = ap (λ c. cond (is_some c) 1 0) e in omega (arith, h))
 
--- Where each agrees none is counted.
+-- If each agrees, none is counted.
 all_agree : (found : List Finding) → All Agrees found → count_by differs found ≡ 0
 all_agree [] h = refl
 all_agree (f ∷ more) h =
@@ -45,7 +45,7 @@ none_differ found = (
   λ all. ap (λ n. not (n == 0)) (all_agree found all),
 )
 
--- What stands at a place is so whatever is taken where none does.
+-- What is at a place doesn't depend on what is taken past the end.
 pub get_or_self : {X : Type 0} (xs : List X) (i : ℕ) (d : X) → get_or xs i d ≡ get_or xs i (get_or xs i d)
 get_or_self [] i d = refl
 get_or_self (x ∷ xs) zero d = refl

@@ -1,11 +1,12 @@
--- What the last write of an item before a cycle tells: the read's value.
+-- What the last write of an item before a cycle tells: the read's origin and its value.
 use Rattle.std.proofs.Common.{◌≡◌, ℕ, zero, suc, ◌+◌, ◌-◌, ◌<◌, ◌≤◌, Bool, true, false, cond, Option, Some, None, List, [], ◌∷◌, ◌++◌, length, get_or, take, refl, sym, ◌∙◌, ap, subst, arith, add-one, zero-add}
 use Rattle.std.proofs.lemmas.List.{append-nil, length_push, length-append, get_or_push, get_or_append_left}
 use Rattle.air_history.specs.declared.histories.Event.{Event}
 use Rattle.air_history.specs.Histories.{writes, event_at, front, writer_before}
-use Rattle.air_history.specs.Reads.{read_value}
+use Rattle.air_history.specs.Reads.{origin, read_value}
 use Rattle.air_history.specs.Tables.{table, values_of}
 use Rattle.air_history.proofs.HistoryLemmas.{front_prefix, front_within}
+use Rattle.air_history.proofs.OriginLemmas.{origin_whole}
 use Rattle.air_history.proofs.ScanLemmas.{writer_before_none}
 use Rattle.air_history.proofs.TableLemmas.{table_nil, table_push}
 use Rattle.air_history.proofs.AloneLemmas.{not_written}
@@ -22,7 +23,7 @@ module _ (V : List ℕ) (H : List Event) (i : ℕ) where
   pub written_next : (n : ℕ) → item_writes (n + 1) ≡ item_writes n ++ cond (writes (event_at H n) i) (write_at V H i n ∷ []) []
   written_next n = one_more V H i 0 n ∙ ap (λ p. item_writes n ++ cond (writes (event_at H p) i) (write_at V H i p ∷ []) []) (zero-add n)
 
-  -- Writes end with that of the last writer; there are none where there is none.
+  -- Writes end with that of the last writer. If there is no last writer, there are no writes.
   abbrev pub EndWith : Option ℕ → List ItemWrite → Type 0
   EndWith None ws = ws ≡ []
   EndWith (Some w) ws = ws ≡ item_writes w ++ write_at V H i w ∷ []
@@ -66,21 +67,31 @@ module _ (V : List ℕ) (H : List Event) (i : ℕ) where
       let whole : length H ≡ length (front H c) + (length H - length (front H c)) = omega (arith, front_within H c) in
       omega (arith, ap (λ n. length (item_writes n)) whole, ap length (split_writes V H i 0 (length (front H c)) (length H - length (front H c))), length-append (item_writes (length (front H c))) (writes_from V H i (0 + length (front H c)) (length H - length (front H c))))
 
-  value_at : (c : ℕ) → read_value (values_of V) H (read_in_cycle i c) ≡ value_left_by (writer_before H (length (front H c)) i)
-  value_at c = ap (λ G. table (values_of V) G i) (front_prefix H c) ∙ value_left (length (front H c)) (front_within H c)
-
-  -- Where nothing was written, the read has the catalog's value.
-  pub none_written : (c : ℕ) → count_before c ≡ 0 → read_value (values_of V) H (read_in_cycle i c) ≡ values_of V i
-  none_written c e = value_at c ∙ ap value_left_by (none (writer_before H (length (front H c)) i) refl)
+  none_before : (c : ℕ) → count_before c ≡ 0 → writer_before H (length (front H c)) i ≡ None
+  none_before c e = none (writer_before H (length (front H c)) i) refl
     where
       none : (o : Option ℕ) → writer_before H (length (front H c)) i ≡ o → writer_before H (length (front H c)) i ≡ None
       none None f = f
       none (Some w) f = absurd (let len = length_push (item_writes w) (write_at V H i w) in let same = ap length (ends (length (front H c)) (Some w) f) in omega arith)
 
-  -- Else the last write has left the read's value.
-  pub last_written : (c : ℕ) (d : ItemWrite) → 0 < count_before c → read_value (values_of V) H (read_in_cycle i c) ≡ (get_or (item_writes (length H)) (count_before c - 1) d).value
-  unfolding write_at
-  last_written c d pos = some (writer_before H (length (front H c)) i) refl
+  -- What a read's origin is, by the writes before its cycle.
+  origin_at : (c : ℕ) → origin H (read_in_cycle i c) ≡ writer_before H (length (front H c)) i
+  origin_at c = origin_whole H (read_in_cycle i c)
+
+  -- There is no origin if there are no writes before the cycle.
+  pub no_origin : (c : ℕ) → count_before c ≡ 0 → origin H (read_in_cycle i c) ≡ None
+  no_origin c e = origin_at c ∙ none_before c e
+
+  value_at : (c : ℕ) → read_value (values_of V) H (read_in_cycle i c) ≡ value_left_by (writer_before H (length (front H c)) i)
+  value_at c = ap (λ G. table (values_of V) G i) (front_prefix H c) ∙ value_left (length (front H c)) (front_within H c)
+
+  -- If nothing was written, the read has the catalog's value.
+  pub none_written : (c : ℕ) → count_before c ≡ 0 → read_value (values_of V) H (read_in_cycle i c) ≡ values_of V i
+  none_written c e = value_at c ∙ ap value_left_by (none_before c e)
+
+  -- Else the last write before the cycle is the origin's, and has left the read's value.
+  last_write : (c : ℕ) (d : ItemWrite) → 0 < count_before c → (w : ℕ) × (writer_before H (length (front H c)) i ≡ Some w) × (get_or (item_writes (length H)) (count_before c - 1) d ≡ write_at V H i w)
+  last_write c d pos = some (writer_before H m i) refl
     where
       m : ℕ
       m = length (front H c)
@@ -88,7 +99,7 @@ module _ (V : List ℕ) (H : List Event) (i : ℕ) where
       whole : item_writes (length H) ≡ item_writes m ++ writes_from V H i (0 + m) (length H - m)
       whole = let e : length H ≡ m + (length H - m) = omega (arith, front_within H c) in ap item_writes e ∙ split_writes V H i 0 m (length H - m)
 
-      some : (o : Option ℕ) → writer_before H m i ≡ o → read_value (values_of V) H (read_in_cycle i c) ≡ (get_or (item_writes (length H)) (count_before c - 1) d).value
+      some : (o : Option ℕ) → writer_before H m i ≡ o → (w : ℕ) × (writer_before H m i ≡ Some w) × (get_or (item_writes (length H)) (count_before c - 1) d ≡ write_at V H i w)
       some None f = absurd (let same = ap length (ends m None f) in omega arith)
       some (Some w) f =
           let tail = ends m (Some w) f in
@@ -96,4 +107,12 @@ module _ (V : List ℕ) (H : List Event) (i : ℕ) where
           let at : get_or (item_writes (length H)) (count_before c - 1) d ≡ write_at V H i w =
           ap (λ ws. get_or ws (count_before c - 1) d) whole ∙ get_or_append_left (item_writes m) (writes_from V H i (0 + m) (length H - m)) d (count_before c - 1) (omega arith)
           ∙ ap (λ ws. get_or ws (count_before c - 1) d) tail ∙ get_or_push (item_writes w) (write_at V H i w) d (count_before c - 1) (omega arith) in
-          value_at c ∙ ap value_left_by f ∙ ap (λ (w : ItemWrite). w.value) (sym at)
+          (w, f, at)
+
+  pub last_written : (c : ℕ) (d : ItemWrite) → 0 < count_before c → read_value (values_of V) H (read_in_cycle i c) ≡ (get_or (item_writes (length H)) (count_before c - 1) d).value
+  unfolding write_at
+  last_written c d pos = let last = last_write c d pos in value_at c ∙ ap value_left_by last.1 ∙ ap (λ (w : ItemWrite). w.value) (sym last.2)
+
+  pub last_origin : (c : ℕ) (d : ItemWrite) → 0 < count_before c → origin H (read_in_cycle i c) ≡ Some (get_or (item_writes (length H)) (count_before c - 1) d).place
+  unfolding write_at
+  last_origin c d pos = let last = last_write c d pos in origin_at c ∙ last.1 ∙ ap (λ (w : ItemWrite). Some w.place) (sym last.2)

@@ -3,7 +3,9 @@ mod WholeExamples
 pub mod CountLemmas
 pub mod WriteLemmas
 pub mod LastLemmas
+pub mod SoughtLemmas
 pub mod AloneLemmas
+pub mod BackwardLemmas
 pub mod PassLemmas
 pub mod RunLemmas
 pub mod ReplayLemmas

@@ -1,4 +1,4 @@
--- Audits at their limits: what is too much to replay, and what is just not; reports whatever they tell; and ends of verdicts that come late.
+-- Audits at their limits: what is too much to replay, and what is just not; reports regardless of what they tell; and ends of verdicts that come late.
 use Rattle.std.proofs.Common.{◌≡◌, ◌<◌, ◌≤◌, ℕ, List, [], ◌∷◌, Some, None, true, false, All, refl, sym, ap, subst, arith}
 use Rattle.std.specs.Prelude.{codes}
 use Rattle.air_base.specs.Numbers.{number_text}
@@ -49,9 +49,9 @@ no_audit bytes read found is more h = let within : replayed_in h.read.report ≤
 not_too_much : (bytes : List ℕ) → IsTooMuch small bytes 50000000 → ⊥
 not_too_much bytes h = let above : 50000000 < 50000000 = h.above in omega arith
 
--- ---- reports whatever they tell
+-- ---- reports regardless of what they tell
 
--- The audit of each report is true, whatever its verdicts, glances and looks are.
+-- The audit of each report is true, regardless of its verdicts, glances and looks.
 true_of : (read : ReadReport) → IsTrueAudit small read
 true_of read = record {
   verdicts = agrees small read.report.history;

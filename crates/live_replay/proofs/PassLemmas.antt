@@ -1,4 +1,4 @@
--- When each read passes after those before it: as a test, and under F-Matrix exactly if the reads are consistent.
+-- When each read passes after those before it: as a test, and under F-Matrix if and only if the reads are consistent.
 use Rattle.std.proofs.Common.{◌≡◌, ℕ, ◌+◌, ◌<◌, ◌≤◌, true, false, List, [], ◌∷◌, ◌++◌, length, get_or, take, All, refl, sym, ◌∙◌, ap, subst, arith}
 use Rattle.std.specs.List.{range_with_len}
 use Rattle.std.proofs.lemmas.Bool.{both_ways, false_from_ne_true}
@@ -59,7 +59,7 @@ consistent_accepts H R are c k d l =
     passes_from FMatrix H (take k R) (get_or R k d) (not_late H (take k R) (get_or R k d))
     ((stays_consistent H (take k R) (get_or R k d) reads (are k d l) (front_consistent H R k (omega arith) are c)).1 front)
 
--- Under F-Matrix each read passes exactly if all are consistent.
+-- Under F-Matrix each read passes if and only if all are consistent.
 pub pass_consistent : (H : List Event) (R : List ReadAt) → All IsRead R → all_pass FMatrix H R ≡ consistent H R
 pass_consistent H R are = same_from_decides {P = IsConsistent H R} (all_pass FMatrix H R) (consistent H R)
     (λ h. (accepted FMatrix H R are (pass_accepts FMatrix H R h)).consistent, λ c. accepts_pass FMatrix H R (consistent_accepts H R are c))

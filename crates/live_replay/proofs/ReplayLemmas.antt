@@ -1,15 +1,20 @@
 -- What a replay needs of the deck, and how far its numbers go.
-use Rattle.std.proofs.Common.{◌≡◌, ℕ, ◌+◌, ◌%◌, ◌^◌, ◌<◌, ◌≤◌, List, [], length, get_or, take, All, sym, ◌∙◌, ap, arith, zero-add}
+use Rattle.std.proofs.Common.{◌≡◌, ℕ, ◌+◌, ◌%◌, ◌^◌, ◌<◌, ◌≤◌, ◌==◌, false, None, List, [], length, get_or, take, All, refl, sym, ◌∙◌, ap, arith, zero-add}
 use Rattle.std.specs.List.{sum}
 use Rattle.std.proofs.Math.Nat.{mod-add-mod}
+use Rattle.std.proofs.lemmas.Bool.{eqb-true, false_from_ne_true}
 use Rattle.std.proofs.lemmas.List.FromFn.{get_or-map-range_with_len, length-map-range_with_len}
 use Rattle.std.proofs.lemmas.List.{get_or_default, length-map, take_all}
 use Rattle.std.proofs.lemmas.List.Sums.{sum_by_more}
 use Rattle.air_history.specs.declared.histories.Event.{Event}
-use Rattle.air_history.specs.declared.histories.Event.TheVariants.{Start}
-use Rattle.air_history.specs.Histories.{is_start, front, starts, ItemsFit}
-use Rattle.air_history.specs.Reads.{read_value}
+use Rattle.air_history.specs.declared.histories.Event.TheVariants.{Commit, Start}
+use Rattle.air_history.specs.declared.updates.Write.{Write}
+use Rattle.air_history.specs.Histories.{is_start, event_at, front, starts, writer_before, writes, ItemsFit}
+use Rattle.air_history.specs.Reads.{origin, read_value}
 use Rattle.air_history.specs.Tables.{table, table_list, values_of}
+use Rattle.air_history.proofs.HistoryLemmas.{front_within, writer_before_is}
+use Rattle.air_history.proofs.OriginLemmas.{origin_whole}
+use Rattle.air_history.proofs.PlaceLemmas.{any_at, last_unique}
 use Rattle.air_history.proofs.ScanLemmas.{cycle_more_start, cycle_within}
 use Rattle.air_model.specs.Reports.{total_at}
 use Rattle.air_model.specs.Decks.{Deck, Item, IsDeck, IsLegal, values_in}
@@ -55,3 +60,26 @@ pub total_whole : (V : List ℕ) (H : List Event) (c i total : ℕ) → length V
 unfolding total_at
 total_whole V H c i total l so_far =
     so_far ∙ ap (λ T. sum T % 2 ^ 64) (take_all i (table_list V (front H c)) (omega (arith, length-map-range_with_len (table (values_of V) (front H c)) 0 (length V))))
+
+-- No commit writes an item that the deck doesn't have, so a read of it has no origin.
+never_written : (n : ℕ) (e : Event) (i : ℕ) → ItemsFit n e → n ≤ i → writes e i ≡ false
+unfolding ItemsFit writes
+never_written n (Commit by seq u) i fits past = false_from_ne_true _ (λ h.
+    let d : Write = record { item = 0; base = None; minus = false; amount = 0 } in
+    let f = any_at (λ (w : Write). w.item == i) u.writes d h in
+    let at : (get_or u.writes f.0 d).item ≡ i = eqb-true _ i f.2 in
+    let below : (get_or u.writes f.0 d).item < n = fits.writes f.0 d f.1 in
+    absurd (omega arith))
+never_written n Start i fits past = refl
+
+pub past_origin : (n : ℕ) (H : List Event) (i c : ℕ) → All (ItemsFit n) H → n ≤ i → origin H (read_in_cycle i c) ≡ None
+past_origin n H i c fits past =
+    let r = read_in_cycle i c in
+    let m = length (front H c) in
+    let within : m ≤ length H = front_within H c in
+    origin_whole H r ∙ last_unique m (λ q. writes (event_at H q) i) (writer_before H m i) None (writer_before_is H m i)
+    (λ q l. never_written n (event_at H q) i (fits q Start (omega arith)) past)
+
+-- What is kept of a replay: the items of its history are the deck's.
+pub kept_fits : (r : Inside) → IsReplay r → All (ItemsFit (length r.deck.now.items)) r.history.now
+kept_fits r is = is.fits

@@ -18,7 +18,7 @@ use Rattle.live_replay.specs.Audits.{findings, found_in}
 use Rattle.live_replay.specs.Findings.{look_cause, verdict_cause}
 use Rattle.live_replay.specs.ReportFindings.{finding_of, spelled_finding}
 
--- The findings of lines that stand in the rows from this one on.
+-- The findings of lines that are in the rows from this one on.
 abbrev found_from : {L : Type 0} → (L → Option Cause) → ℕ → List L → List Finding
 found_from cause row lines = map (λ p. record { row = p.0; differs = cause p.1 }) (enumerate_from row lines)
 

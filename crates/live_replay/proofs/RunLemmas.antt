@@ -24,7 +24,7 @@ use Rattle.live_replay.proofs.WriteLemmas.{no_places}
 
 -- ---- the writes that a commit adds
 
-module _ (cycle : ℕ) (values : List ℕ) (ws : List Write) where
+module _ (place cycle : ℕ) (values : List ℕ) (ws : List Write) where
   -- Whether one of the first k writes is of the item.
   wrote : ℕ → ℕ → Bool
   wrote k i = list_any (λ w. w.item == i) (take k ws)
@@ -37,9 +37,9 @@ module _ (cycle : ℕ) (values : List ℕ) (ws : List Write) where
       or_none true = refl
       or_none false = refl
 
-  pub added_other : (k i : ℕ) (d : Write) → k < length ws → (i ≡ (get_or ws k d).item → ⊥) → added_write cycle values (take (k + 1) ws) i ≡ added_write cycle values (take k ws) i
+  pub added_other : (k i : ℕ) (d : Write) → k < length ws → (i ≡ (get_or ws k d).item → ⊥) → added_write place cycle values (take (k + 1) ws) i ≡ added_write place cycle values (take k ws) i
   unfolding wrote
-  added_other k i d l other = ap (λ b. cond b (record { cycle = cycle; value = get_or values i 0 } ∷ []) [])
+  added_other k i d l other = ap (λ b. cond b (record { place = place; cycle = cycle; value = get_or values i 0 } ∷ []) [])
       (wrote_next k i d l ∙ ap (λ b. wrote k i || b) (ne_eqb _ _ (λ e. other (sym e))) ∙ or_none (wrote k i))
     where
       or_none : (b : Bool) → (b || false) ≡ b
@@ -47,11 +47,11 @@ module _ (cycle : ℕ) (values : List ℕ) (ws : List Write) where
       or_none false = refl
 
   pub added_here : (k i : ℕ) (d : Write) → k < length ws → AllPairs (λ a b. a ≢ b) (map written_item ws) → i ≡ (get_or ws k d).item →
-      (added_write cycle values (take k ws) i ≡ []) × (added_write cycle values (take (k + 1) ws) i ≡ record { cycle = cycle; value = get_or values i 0 } ∷ [])
+      (added_write place cycle values (take k ws) i ≡ []) × (added_write place cycle values (take (k + 1) ws) i ≡ record { place = place; cycle = cycle; value = get_or values i 0 } ∷ [])
   unfolding wrote
   added_here k i d l apart same = (
-    ap (λ b. cond b (record { cycle = cycle; value = get_or values i 0 } ∷ []) []) none,
-    ap (λ b. cond b (record { cycle = cycle; value = get_or values i 0 } ∷ []) []) (wrote_next k i d l ∙ or_right _ _ (eq-eqb _ _ (sym same))),
+    ap (λ b. cond b (record { place = place; cycle = cycle; value = get_or values i 0 } ∷ []) []) none,
+    ap (λ b. cond b (record { place = place; cycle = cycle; value = get_or values i 0 } ∷ []) []) (wrote_next k i d l ∙ or_right _ _ (eq-eqb _ _ (sym same))),
   )
     where
       none : wrote k i ≡ false
@@ -117,7 +117,7 @@ module _ (V : List ℕ) (H : List Event) where
       ((i : ℕ) → get_or new.values.items i 0 ≡ value_after (values_of old.values.items) (Commit by seq u) i) →
       new.starts ≡ old.starts →
       length new.writes.items ≡ length old.writes.items →
-      ((i : ℕ) → i < length old.writes.items → get_or new.writes.items i [] ≡ get_or old.writes.items i [] ++ added_write old.starts new.values.items u.writes i) →
+      ((i : ℕ) → i < length old.writes.items → get_or new.writes.items i [] ≡ get_or old.writes.items i [] ++ added_write n old.starts new.values.items u.writes i) →
       IsReplayOfFirst V H (n + 1) new
   unfolding write_at
   run_commit n by seq u old new r l at sized values starts counted writes = record {
@@ -125,7 +125,7 @@ module _ (V : List ℕ) (H : List Event) where
     values = valued;
     starts = starts ∙ r.starts ∙ sym (cycle_more_commit H n (Commit by seq u) l (placed n (Commit by seq u) l at) (commit_is (Commit by seq u) by seq u refl));
     sized = counted ∙ r.sized;
-    writes = λ i li. writes i (omega (arith, r.sized)) ∙ ap (λ ws. ws ++ added_write old.starts new.values.items u.writes i) (r.writes i li)
+    writes = λ i li. writes i (omega (arith, r.sized)) ∙ ap (λ ws. ws ++ added_write n old.starts new.values.items u.writes i) (r.writes i li)
         ∙ ap (λ x. writes_from V H i 0 n ++ cond (list_any (λ w. w.item == i) u.writes) (x ∷ []) []) (same i)
         ∙ ap (λ b. writes_from V H i 0 n ++ cond b (write_at V H i n ∷ []) []) (sym (commit_writes (event_at H n) by seq u i at)) ∙ sym (written_next V H i n);
   }
@@ -133,7 +133,7 @@ module _ (V : List ℕ) (H : List Event) where
       valued : (i : ℕ) → get_or new.values.items i 0 ≡ table (values_of V) (take (n + 1) H) i
       valued = run_more V old.values.items new.values.items H n (Commit by seq u) l (placed n (Commit by seq u) l at) r.values values
 
-      same : (i : ℕ) → record { cycle = old.starts; value = get_or new.values.items i 0 } ≡ write_at V H i n
+      same : (i : ℕ) → record { place = n; cycle = old.starts; value = get_or new.values.items i 0 } ≡ write_at V H i n
       same i =
           let at_n : old.starts ≡ cycle_at H n = r.starts in
           let left : get_or new.values.items i 0 ≡ table (values_of V) (take (n + 1) H) i = valued i in

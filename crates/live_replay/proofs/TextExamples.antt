@@ -52,7 +52,7 @@ two_readers = record pair {
   queries = ((0 ∷ []) ∷ []) ∷ ((1 ∷ []) ∷ (0 ∷ []) ∷ []) ∷ [];
 }
 
--- Item 0 becomes 11 and item 1 becomes 21, both in cycle 1; then another cycle, and in the second deck one more behind it.
+-- Item 0 becomes 11 and item 1 becomes 21, both in cycle 1; then another cycle, and in the second deck one more after it.
 abbrev turned : Deck
 turned = swapped_deck (s ∷ u ∷ u ∷ s ∷ [])
 

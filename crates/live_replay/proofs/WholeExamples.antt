@@ -1,4 +1,4 @@
--- Findings of whole reports over a small history, computed: a line that agrees, the same altered, and a glance and a look behind it.
+-- Findings of whole reports over a small history, computed: a line that agrees, the same altered, and a glance and a look after it.
 use Rattle.std.specs.Prelude.{◌≡◌, ℕ, List, [], ◌∷◌, Option, Some, None, refl}
 use Rattle.air_base.specs.declared.verdicts.ReadOf.{ReadOf}
 use Rattle.air_base.specs.declared.verdicts.VerdictKind.{VerdictKind}

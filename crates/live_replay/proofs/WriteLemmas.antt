@@ -40,7 +40,7 @@ module _ (V : List ℕ) (H : List Event) (i : ℕ) where
   unfolding writes_from
   one_more m n = ap (writes_from V H i m) (add-one n)
 
-  -- The writes of so many places and of those behind them.
+  -- The writes of some places and of those after them.
   pub split_writes : (m n k : ℕ) → writes_from V H i m (n + k) ≡ writes_from V H i m n ++ writes_from V H i (m + n) k
   unfolding writes_from
   split_writes m n zero = let e : n + 0 ≡ n = omega arith in ap (writes_from V H i m) e ∙ sym (append-nil (writes_from V H i m n))

@@ -27,7 +27,7 @@ findings deck read =
 unfoldable pub replayed_in : Report → ℕ
 replayed_in report = count_by (λ event. not (is_start event)) report.history * (length report.verdicts + length report.glances + length report.looks)
 
--- An audit is too much exactly if more is replayed than may be; no memory has no cause.
+-- An audit is refused as too much if and only if more is replayed than may be. Out of memory has no cause.
 abbrev pub IsAuditRefusal : Report → AuditError → Type 0
 IsAuditRefusal report (TooMuch product) = (product ≡ replayed_in report) × (MOST_REPLAYED < product)
 IsAuditRefusal report NoMemory = ⊤

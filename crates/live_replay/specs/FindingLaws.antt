@@ -23,7 +23,7 @@ EndsSo policy H R (Abort item cycle clash) =
 EndsSo policy H R (Aged item cycle) = is_late policy R (read_in_cycle item cycle) ≡ false
 EndsSo policy H R Unfinished = ⊤
 
--- The reads don't lie too far apart for the version; with the named one they do exactly if the attempt ended aged.
+-- The reads don't lie too far apart for the version. With the named one they do if and only if the attempt ended aged.
 abbrev pub SpansSo : ℕ → List ReadAt → VerdictKind → Type 0
 SpansSo version R kind = (are_far version R ≡ false) × (IsAged kind ↔ IsTrue (are_far version (decided_on kind R)))
 

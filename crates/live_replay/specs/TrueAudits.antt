@@ -15,10 +15,10 @@ use Rattle.live_replay.specs.Findings.{look_cause, verdict_cause}
 use Rattle.live_replay.specs.ReportFindings.{sessions_judged}
 use Rattle.live_replay.specs.FindingTexts.{some_differ}
 
--- The line of a verdict agrees exactly where the replay over the report's history gives its reads' values and its verdict, and
--- that of a glance or a look where it gives the total. Each verdict of a session that the history judges agrees, whatever its reader heard, and whatever else the report
--- tells; where all verdicts are those of such sessions, and all totals are the history's, every line agrees. Nothing differs exactly
--- where every line agrees.
+-- The line of a verdict agrees if and only if the replay over the report's history gives its reads' values and its verdict. The line of
+-- a glance or a look agrees if and only if the replay gives its total. Each verdict of a session that the history judges agrees,
+-- regardless of what its reader heard and of what else the report tells. If all verdicts are those of such sessions, and all totals are
+-- the history's, every line agrees. Nothing differs if and only if every line agrees.
 pub record IsTrueAudit (deck : Deck) (read : ReadReport) : Type 0 where
   pub verdicts : (line : VerdictLine) → (verdict_cause deck read.report.history line ≡ None) ↔ GivesVerdict deck read.report.history line
   pub looks : (line : LookLine) → (look_cause deck read.report.history line ≡ None) ↔ GivesLook deck read.report.history line

@@ -1,18 +1,21 @@
-//! The commits from which reads descend, marked by the scans of the history, and whether the reads are consistent.
+//! Whether reads are consistent: one backward pass over the commits from which they descend.
 //!
-//! When these commits run alone, the last that writes a read's item has to be the read's own origin.
+//! When these commits run alone, none of them may write a read's item after that read's origin. The pass begins at the last origin and
+//! ends at the first one, or at the first commit that comes too late.
 
-ghost use Rattle.std.specs.Prelude.{◌≡◌, ◌≤◌, ◌<◌, ◌&&◌, ◌||◌, ℕ, false, length, get_or, map, All, IfOk, IfSome, OnOk};
+ghost use Rattle.std.specs.Prelude.{◌≡◌, ◌≤◌, ◌<◌, ◌&&◌, ℕ, false, length, get_or, map, All, IfOk, IfSome, Some};
+ghost use Rattle.std.specs.List.{list_any};
 ghost use Rattle.air_history.specs.Consistency.{consistent};
-ghost use Rattle.air_history.specs.Histories.{event_at, starts, writes};
-ghost use Rattle.air_history.specs.Places.{last_place};
+ghost use Rattle.air_history.specs.Histories.{ItemsFit, writes};
+ghost use Rattle.air_history.specs.Places.{same_place};
 ghost use Rattle.air_history.specs.Reads.{origin};
 ghost use Rattle.live_replay.specs.Findings.{places_of};
-ghost use Rattle.live_replay.specs.Private.Alone.{MarksAlone, MarksDescents};
+ghost use Rattle.live_replay.specs.Private.Alone.{comes_late, first_or_none, is_after, is_met};
 
 use crate::replay::{Replay, same_place};
+use crate::sought::{forget_written, none_sought, seek_read, writes_sought};
 use air_base::{NoMemory, ReadOf};
-use air_history::{History, descends};
+use air_history::Event;
 use std::alloc::Global;
 
 /// The origin of each read.
@@ -21,7 +24,6 @@ fn origins_of(
     replay: &Replay<'_>,
     reads: &[ReadOf],
 ) -> Result<Vec<Option<u64>>, NoMemory>
-    requires { All (λ r. r.cycle ≤ starts replay.now.history) reads.now }
     ensures { IfOk result (λ origins. origins.items ≡ map (origin replay.now.history) (places_of reads.now)) }
 {
     let mut origins = Vec::new(alloc);
@@ -31,61 +33,112 @@ fn origins_of(
     Ok(origins)
 }
 
-/// Marks too what is marked in another list.
-fn mark_too(more: &[bool], marks: &mut [bool])
-    requires { length more.now ≡ length marks.old }
-    ensures { (p : ℕ) → get_or marks.new p false ≡ (get_or marks.old p false || get_or more.now p false) }
+/// The place after the last origin, 0 if there is none.
+fn end_of(count: usize, origins: &[Option<u64>]) -> usize
+    requires { All (λ o. IfSome o (λ w. w < count)) origins.now }
+    ensures within { result ≤ count }
+    ensures all { All (λ o. IfSome o (λ w. w < result)) origins.now }
 {
-    for place in 0..more.len() {
-        marks[place] = marks[place] || more[place];
-    }
-}
-
-/// Marks the places from which one of these origins descends, the last origin first: one that is marked adds nothing.
-fn mark_descents(
-    alloc: Global,
-    history: &History,
-    origins: &[Option<u64>],
-    marks: &mut [bool],
-) -> Result<(), NoMemory>
-    requires within { All (λ o. IfSome o (λ w. w < length history.now)) origins.now }
-    requires sized { length marks.old ≡ length history.now }
-    requires clear { (p : ℕ) → get_or marks.old p false ≡ false }
-    ensures { OnOk result (MarksDescents history.now origins.now marks.new) }
-{
-    for k in (0..origins.len()).rev() {
-        if let Some(place) = origins[k] {
-            if !marks[place as usize] {
-                mark_too(&descends(alloc, history, place)?, marks);
-            }
+    let mut end = 0;
+    for origin in origins {
+        if let Some(place) = origin {
+            end = end.max(*place as usize + 1);
         }
     }
-    Ok(())
+    end
 }
 
-/// The last marked place whose commit writes the item.
-fn last_marked(history: &History, marks: &[bool], item: u16) -> Option<u64>
-    requires { length marks.now ≡ length history.now }
-    ensures { result ≡ last_place (length history.now) (λ p. get_or marks.now p false && writes (event_at history.now p) item) }
+/// The place of an origin, 0 if there is none.
+fn first_or_none(origin: Option<u64>) -> u64
+    ensures { result ≡ first_or_none origin }
 {
-    let events = history.events();
-    for place in (0..events.len()).rev() {
-        if marks[place] && events[place].writes_item(item) {
-            return Some(place as u64);
-        }
+    match origin {
+        None => 0,
+        Some(place) => place,
     }
-    None
 }
 
-/// Whether the reads of these origins are consistent, by the marks of the commits that run alone.
-fn are_last(history: &History, marks: &[bool], reads: &[ReadOf], origins: &[Option<u64>]) -> bool
-    requires marked { MarksAlone history.now (places_of reads.now) marks.now }
-    requires origins { origins.now ≡ map (origin history.now) (places_of reads.now) }
-    ensures { result ≡ consistent history.now (places_of reads.now) }
+/// The place of the first origin, 0 if a read has none.
+fn first_of(origins: &[Option<u64>]) -> u64
+    ensures { All (λ o. result ≤ first_or_none o) origins.now }
+{
+    let mut first = u64::MAX;
+    for origin in origins {
+        first = first.min(first_or_none(*origin));
+    }
+    first
+}
+
+/// Whether the place is an origin.
+fn is_origin(origins: &[Option<u64>], place: u64) -> bool
+    ensures { result ≡ list_any (λ o. same_place o (Some place)) origins.now }
+{
+    origins
+        .iter()
+        .any(|origin| same_place(*origin, Some(place)))
+}
+
+/// Whether one of these origins is at the place, or its commit writes an item that is looked for.
+fn is_met(events: &[Event], place: usize, origins: &[Option<u64>], sought: &[bool]) -> bool
+    requires within { place < length events.now }
+    requires fits { All (ItemsFit (length sought.now)) events.now }
+    ensures { result ≡ is_met events.now origins.now place sought.now }
+{
+    is_origin(origins, place as u64) || writes_sought(events[place].writes(), sought)
+}
+
+/// Whether a place comes after an origin.
+fn is_after(origin: Option<u64>, place: u64) -> bool
+    ensures { result ≡ is_after origin place }
+{
+    match origin {
+        None => true,
+        Some(first) => first < place,
+    }
+}
+
+/// Whether an event at a place writes an item after an origin.
+fn writes_after(event: &Event, place: u64, item: u16, origin: Option<u64>) -> bool
+    ensures { result ≡ (writes event.now item && is_after origin place) }
+{
+    event.writes_item(item) && is_after(origin, place)
+}
+
+/// Whether the commit at a place writes an item of these reads after its origin.
+fn comes_late(events: &[Event], place: usize, reads: &[ReadOf], origins: &[Option<u64>]) -> bool
+    requires within { place < length events.now }
+    requires origins { origins.now ≡ map (origin events.now) (places_of reads.now) }
+    ensures { result ≡ comes_late events.now (places_of reads.now) place }
 {
     for (k, read) in reads.iter().enumerate() {
-        if !same_place(last_marked(history, marks, read.item), origins[k]) {
-            return false;
+        if writes_after(&events[place], place as u64, read.item, origins[k]) {
+            return true;
+        }
+    }
+    false
+}
+
+/// Whether the reads of these origins are consistent. The items that are looked for are none to begin with.
+fn none_late(
+    events: &[Event],
+    reads: &[ReadOf],
+    origins: &[Option<u64>],
+    sought: &mut [bool],
+) -> bool
+    requires origins { origins.now ≡ map (origin events.now) (places_of reads.now) }
+    requires fits { All (ItemsFit (length sought.old)) events.now }
+    requires clear { (i : ℕ) → get_or sought.old i false ≡ false }
+    ensures { result ≡ consistent events.now (places_of reads.now) }
+{
+    let first = first_of(origins) as usize;
+    let end = end_of(events.len(), origins);
+    for at in (first..end).rev() {
+        if is_met(events, at, origins, sought) {
+            if comes_late(events, at, reads, origins) {
+                return false;
+            }
+            forget_written(events[at].writes(), sought);
+            seek_read(events[at].reads(), sought);
         }
     }
     true
@@ -93,12 +146,9 @@ fn are_last(history: &History, marks: &[bool], reads: &[ReadOf], origins: &[Opti
 
 /// Whether the reads are consistent.
 pub fn is_consistent(alloc: Global, replay: &Replay<'_>, reads: &[ReadOf]) -> Result<bool, NoMemory>
-    requires { All (λ r. r.cycle ≤ starts replay.now.history) reads.now }
     ensures { IfOk result (λ told. told ≡ consistent replay.now.history (places_of reads.now)) }
 {
-    let history = replay.history();
     let origins = origins_of(alloc, replay, reads)?;
-    let mut marks = vec![in alloc; false; history.len() as usize]?;
-    mark_descents(alloc, history, &origins, &mut marks)?;
-    Ok(are_last(history, &marks, reads, &origins))
+    let mut sought = none_sought(alloc, replay.items() as usize)?;
+    Ok(none_late(replay.events(), reads, &origins, &mut sought))
 }

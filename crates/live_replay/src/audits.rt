@@ -37,7 +37,7 @@ fn commits_in(events: &[Event]) -> u64
     commits
 }
 
-/// How much of a report is replayed.
+/// How much of a report is replayed: the number of commits times that of lines.
 #[tactic(auto, unfolding(crate::specs::Audits::replayed_in))]
 fn replayed_in(report: &Report) -> u64
     requires events { IsFew report.now.history }
@@ -50,7 +50,7 @@ fn replayed_in(report: &Report) -> u64
     commits_in(report.history.events()) * lines as u64
 }
 
-/// Adds the findings of the lines of verdicts that stand in these rows.
+/// Adds the findings of the lines of verdicts that are in these rows.
 fn add_verdicts(
     alloc: Global,
     replay: &Replay<'_>,
@@ -71,7 +71,7 @@ fn add_verdicts(
     Ok(())
 }
 
-/// Adds the findings of the lines of glances or looks that stand in these rows.
+/// Adds the findings of the lines of glances or looks that are in these rows.
 fn add_looks(
     replay: &Replay<'_>,
     rows: &[u32],
@@ -90,8 +90,8 @@ fn add_looks(
     Ok(())
 }
 
-/// The finding of each verdict, glance and look line of a report, in order, with its row. It is too much exactly if the number of commits
-/// times that of these lines is above the limit.
+/// The finding of each verdict, glance and look line of a report, in order, with its row. The answer is `TooMuch` if and only if the
+/// number of commits times that of these lines is above `MOST_REPLAYED`.
 #[tactic(auto, unfolding(crate::specs::Audits::findings))]
 pub fn audit(alloc: Global, deck: &Deck, report: &ReadReport) -> Result<Vec<Finding>, AuditError>
     requires kept { KeepsGrammar deck.now report.now }

@@ -1,4 +1,4 @@
-//! What the audit finds of a line, and why it finds nothing.
+//! What the audit finds of a line, and why there is no audit.
 
 use air_base::NoMemory;
 use std::alloc::{AllocError, AllocFailed};
@@ -10,7 +10,7 @@ use std::fmt;
 pub enum Cause {
     /// A read's value is another.
     Value,
-    /// A read that should pass doesn't, the refused read passes or comes too late, or the reads lie nearer or farther apart than the
+    /// A read that should pass doesn't; or the refused read passes or comes too late; or the reads lie nearer or farther apart than the
     /// verdict says.
     Verdict,
     /// The refused read clashes with another item.
@@ -19,7 +19,7 @@ pub enum Cause {
     Total,
 }
 
-/// What is found of the line in a row: that it agrees, or the first cause for which it differs.
+/// What is found of the line in a row: that it agrees, or the first cause why it differs.
 #[derive(Clone, Copy, Debug, PartialEq, Eq)]
 pub struct Finding {
     pub row: u32,

@@ -1,5 +1,5 @@
-//! Laws of audits: when a line agrees, of which rows the findings are, and that true reports agree. Each is carried by a function
-//! that does nothing.
+//! Laws of audits: when a line agrees, which rows have findings, and that true reports agree. Each is the contract of a function that
+//! does nothing.
 
 ghost use Rattle.std.specs.Prelude.{◌≡◌, ◌↔◌, ℕ, List, All, Option, None};
 ghost use Rattle.std.specs.List.{enumerate_from, filter_map};
@@ -21,27 +21,27 @@ ghost use Rattle.live_replay.specs.FindingLaws.{GivesLook, GivesVerdict};
 ghost use Rattle.live_replay.specs.Findings.{look_cause, verdict_cause};
 ghost use Rattle.live_replay.specs.ReportFindings.{sessions_judged, spelled_finding};
 
-/// The line of a verdict agrees exactly if the replay gives it, and so does that of a glance or a look.
+/// The line of a verdict agrees if and only if the replay gives it. The same holds for the line of a glance or a look.
 pub fn agrees_law()
     ensures verdicts { (deck : Deck) (H : List Event) (line : VerdictLine) → (verdict_cause deck H line ≡ None) ↔ GivesVerdict deck H line }
     ensures looks { (deck : Deck) (H : List Event) (line : LookLine) → (look_cause deck H line ≡ None) ↔ GivesLook deck H line }
 {}
 
-/// The findings are those of the lines that a text's records spell in the deck's version, in their order, each with its record's row,
-/// counted from 1.
+/// The findings are those of the lines that a text's records spell in the deck's version. They are in the order of the records. Each has
+/// its record's row, counted from 1.
 pub fn rows_law()
     ensures { (deck : Deck) (text : List ℕ) (read : ReadReport) → IsReportOf deck text read →
         findings deck read ≡ filter_map (λ p. spelled_finding deck read.report.history p.0 (spelled_line deck.settings.version p.1)) (enumerate_from 1 (records_of text)) }
 {}
 
-/// A replay gives each line of a session that its history judges, whatever the reader heard.
+/// A replay gives each line of a session that its history judges, regardless of what the reader heard.
 pub fn session_law()
     ensures { (deck : Deck) (H : List Event) (r : ℕ) (heard : List (Option Bucket)) → IsDeck deck →
         All (λ line. GivesVerdict deck H (line_by r line)) (session_of (by_history (scheme_in deck) (values_in deck) H) deck r heard).lines }
 {}
 
-/// No line of a report differs whose verdicts are those of sessions that its history judges, whatever the readers heard, and whose
-/// glances and looks have the totals of its history.
+/// No line of a report differs if its verdicts are those of sessions that its history judges, and its glances and looks have the totals
+/// of its history. What the readers heard doesn't matter.
 pub fn true_report_law()
     ensures { (deck : Deck) (read : ReadReport) (heard : ℕ → List (Option Bucket)) → IsDeck deck →
         read.report.verdicts ≡ verdict_lines (sessions_judged deck read.report.history heard) →

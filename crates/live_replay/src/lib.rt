@@ -1,9 +1,10 @@
 //! The audit: each verdict, glance and look of a report is replayed by the report's own history.
 //!
-//! The scans of the history find origins (`replay`) and the commits from which reads descend, which tell whether these are consistent
-//! (`alone`). Values come of running the history once (`running`). `policies` tells what passes and clashes, `spans` whether reads lie
-//! as far apart as their verdict says, `lines` what is found of a line, `audits` what is found of a report, from its text and as a text.
-//! No type of held reads and no control column has a part in it.
+//! The history is run once (`running`). `replay` keeps what that gives, the writes of each item with their places (`writes`), and finds
+//! origins and values there. `alone` tells whether reads are consistent, by one backward pass over the commits from which they descend;
+//! `sought` has the items that it looks for. `policies` tells what passes and clashes, `spans` whether reads lie as far apart as their
+//! verdict says, `lines` what is found of a line, `audits` what is found of a report, from its text and as a text. No type of held reads
+//! and no control column is used.
 #![tactic(auto)]
 
 mod alone;
@@ -15,6 +16,7 @@ mod lines;
 mod policies;
 mod replay;
 mod running;
+mod sought;
 mod spans;
 mod writes;
 

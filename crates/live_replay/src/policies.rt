@@ -1,6 +1,6 @@
-//! Which held read a new one clashes with under each policy, and whether reads pass one after another.
+//! Which held read a new one clashes with under each policy, and whether each read passes after those before it.
 //!
-//! Everything is asked of the history: origins, and whether reads are consistent.
+//! The history alone decides: by the origins of reads, and by whether reads are consistent.
 
 ghost use Rattle.std.specs.Prelude.{◌≡◌, ◌≤◌, All, IfOk, IfSome, Some};
 ghost use Rattle.air_history.specs.Histories.{starts};
@@ -15,14 +15,14 @@ use crate::replay::Replay;
 use air_base::{Clash, NoMemory, Policy, ReadOf};
 use std::alloc::Global;
 
-/// By what held reads are named.
+/// Which held reads a new one clashes with.
 #[derive(Clone, Copy, Debug, PartialEq, Eq)]
 pub enum Naming {
-    /// Their items have other origins at this cycle.
+    /// Those whose items have other origins at this cycle.
     StaleAt(u32),
-    /// They are of this cycle.
+    /// Those of this cycle.
     OfCycle(u32),
-    /// Each of them with this read isn't consistent.
+    /// Those that aren't consistent with this read.
     ApartFrom(ReadOf),
 }
 
@@ -58,7 +58,7 @@ fn lesser(read: &ReadOf, clash: Option<Clash>) -> Clash
     }
 }
 
-/// The held read of least item number among those that are named.
+/// The named held read of the least item number.
 #[tactic(auto, using(crate::proofs::PolicyLemmas::named_more, crate::proofs::PolicyLemmas::named_not, crate::proofs::PolicyLemmas::named_none))]
 fn least_named(
     alloc: Global,
@@ -79,7 +79,7 @@ fn least_named(
     Ok(least)
 }
 
-/// The newest cycle of reads, 0 where there is none.
+/// The newest cycle of reads, 0 if there is none.
 fn newest_cycle(reads: &[ReadOf]) -> u32
     ensures { result ≡ newest_cycle (places_of reads.now) }
 {
@@ -90,7 +90,7 @@ fn newest_cycle(reads: &[ReadOf]) -> u32
     newest
 }
 
-/// The cycle of the first read, 0 where there is none.
+/// The cycle of the first read, 0 if there is none.
 fn first_cycle(reads: &[ReadOf]) -> u32
     ensures { result ≡ first_cycle (places_of reads.now) }
 {
@@ -100,7 +100,7 @@ fn first_cycle(reads: &[ReadOf]) -> u32
     reads[0].cycle
 }
 
-/// The cycle of the last read, 0 where there is none.
+/// The cycle of the last read, 0 if there is none.
 #[tactic(auto, using(crate::proofs::PolicyLemmas::last_is))]
 fn last_cycle(reads: &[ReadOf]) -> u32
     ensures { result ≡ last_cycle (places_of reads.now) }
@@ -122,7 +122,7 @@ pub fn is_late(policy: Policy, held: &[ReadOf], read: &ReadOf) -> bool
     }
 }
 
-/// By what a new read names held ones, if by anything.
+/// Which held reads a new one clashes with, if it can clash.
 #[tactic(auto, unfolding(air_history::specs::Clashes::clash_by_history))]
 fn naming_of(replay: &Replay<'_>, held: &[ReadOf], read: &ReadOf) -> Option<Naming>
     requires held { All (λ r. r.cycle ≤ starts replay.now.history) held.now }
@@ -189,7 +189,7 @@ fn passes(
     Ok(clash(alloc, replay, held, read)?.is_none())
 }
 
-/// Whether each read passes after those before it, one after another.
+/// Whether each read passes after those before it. This asks for each read by itself.
 fn each_passes(alloc: Global, replay: &Replay<'_>, reads: &[ReadOf]) -> Result<bool, NoMemory>
     requires { All (λ r. r.cycle ≤ starts replay.now.history) reads.now }
     ensures { IfOk result (λ told. told ≡ all_pass replay.now.deck.settings.policy replay.now.history (places_of reads.now)) }
@@ -202,7 +202,7 @@ fn each_passes(alloc: Global, replay: &Replay<'_>, reads: &[ReadOf]) -> Result<b
     Ok(true)
 }
 
-/// Whether each read passes after those before it. Under F-Matrix it is asked of all reads at once.
+/// Whether each read passes after those before it. Under F-Matrix this is one question about all reads.
 pub fn all_pass(alloc: Global, replay: &Replay<'_>, reads: &[ReadOf]) -> Result<bool, NoMemory>
     requires within { All (λ r. r.cycle ≤ starts replay.now.history) reads.now }
     requires begun { All IsRead (places_of reads.now) }

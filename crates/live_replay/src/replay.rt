@@ -1,9 +1,9 @@
 //! The replay of a history over a deck: the origins and the values of reads.
 //!
-//! Origins are looked for in the history, for each read anew; values are those that running the history once has left.
+//! The history is run once. This keeps the writes of each item, with their places. A search there finds a read's origin and value.
 
-ghost use Rattle.std.specs.Prelude.{◌≡◌, ◌<◌, ◌≤◌, length, All, IfOk};
-ghost use Rattle.air_history.specs.Histories.{ItemsFit, starts};
+ghost use Rattle.std.specs.Prelude.{◌≡◌, ◌<◌, length, All, IfOk};
+ghost use Rattle.air_history.specs.Histories.{ItemsFit};
 ghost use Rattle.air_history.specs.Places.{same_place};
 ghost use Rattle.air_history.specs.Reads.{origin, read_value, same_origin};
 ghost use Rattle.air_history.specs.Tables.{values_of};
@@ -15,7 +15,7 @@ ghost use Rattle.live_replay.specs.Private.Writes.{count_at, writes_from};
 use crate::running::ReplayState;
 use crate::writes::ItemWrites;
 use air_base::{NoMemory, Policy};
-use air_history::{Event, History, writer_at};
+use air_history::{Event, History};
 use item_catalog::Deck;
 use std::alloc::Global;
 use std::marker::Model;
@@ -59,11 +59,11 @@ impl<'a> Replay<'a> {
     {
         let events = history.events();
         let mut running = ReplayState::new(alloc, deck)?;
-        for event in events {
+        for (place, event) in events.iter().enumerate() {
             match event {
                 Event::Start => running.start(),
                 Event::Commit { by, seq, update } => {
-                    running.commit(alloc, *by, *seq, update)?;
+                    running.commit(alloc, place as u64, *by, *seq, update)?;
                 }
             }
         }
@@ -88,25 +88,37 @@ impl<'a> Replay<'a> {
         self.deck.settings().version
     }
 
-    /// The history.
-    pub fn history(&self) -> &History
-        ensures { result.now ≡ self.now.history }
+    /// The events of the history, whose items are the deck's.
+    pub fn events(&self) -> &[Event]
+        ensures listed { result.now ≡ self.now.history }
+        ensures fits { All (ItemsFit (length self.now.deck.items)) result.now }
     {
-        self.history
+        self.history.events()
+    }
+
+    /// The number of items of the deck.
+    pub fn items(&self) -> u16
+        ensures { result ≡ length self.now.deck.items }
+    {
+        self.deck.items()
     }
 
     /// The place of the commit that is the origin of a read.
     pub fn origin(&self, item: u16, cycle: u32) -> Option<u64>
-        requires { cycle ≤ starts self.now.history }
         ensures { result ≡ origin self.now.history (read_in_cycle item cycle) }
     {
-        writer_at(self.history, cycle, item)
+        if item >= self.deck.items() {
+            return None;
+        }
+        let before = self.writes_before(item, cycle);
+        if before == 0 {
+            return None;
+        }
+        Some(self.writes(item).as_slice()[before - 1].place)
     }
 
     /// Whether an item has one origin at two cycles.
     pub fn same_origin(&self, item: u16, c: u32, d: u32) -> bool
-        requires first { c ≤ starts self.now.history }
-        requires second { d ≤ starts self.now.history }
         ensures { result ≡ same_origin self.now.history item c d }
     {
         same_place(self.origin(item, c), self.origin(item, d))

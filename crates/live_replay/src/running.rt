@@ -21,9 +21,10 @@ pub struct ReplayState {
     pub writes: Vec<ItemWrites>,
 }
 
-/// Adds a write of each item that a commit of this cycle wrote; the values are those after it.
+/// Adds a write of each item that the commit at a place, of this cycle, wrote; the values are those after it.
 fn add_writes(
     writes: &mut [ItemWrites],
+    place: u64,
     cycle: u32,
     values: &[u64],
     written: &[Write],
@@ -32,11 +33,12 @@ fn add_writes(
     requires sized { length values.now ≡ length writes.old }
     requires apart { AllPairs (λ a b. a ≢ b) (map written_item written.now) }
     ensures { OnOk result ((i : ℕ) → i < length writes.old →
-        get_or writes.new i [] ≡ get_or writes.old i [] ++ added_write cycle values.now written.now i) }
+        get_or writes.new i [] ≡ get_or writes.old i [] ++ added_write place cycle values.now written.now i) }
 {
     for write in written {
         let item = write.item as usize;
         writes[item].push(ItemWrite {
+            place,
             cycle,
             value: values[item],
         })?;
@@ -71,18 +73,19 @@ impl ReplayState {
         self.starts += 1;
     }
 
-    /// An update is committed.
+    /// An update is committed at a place.
     pub fn commit(
         &mut self,
         alloc: Global,
+        place: u64,
         by: u32,
         seq: u32,
         update: &Update,
     ) -> Result<(), NoMemory>
         requires fits { UpdateFits (length self.old.writes.items) update.now }
         requires sized { length self.old.values.items ≡ length self.old.writes.items }
-        ensures { OnOk result ((V : List ℕ) (H : List Event) (n : ℕ) → IsReplayOfFirst V H n self.old → n < length H →
-            event_at H n ≡ Event.Commit by seq update.now → IsReplayOfFirst V H (n + 1) self.new) }
+        ensures { OnOk result ((V : List ℕ) (H : List Event) → IsReplayOfFirst V H place self.old → place < length H →
+            event_at H place ≡ Event.Commit by seq update.now → IsReplayOfFirst V H (place + 1) self.new) }
     {
         update.shows_rules_kept();
         let event = Event::Commit {
@@ -91,7 +94,13 @@ impl ReplayState {
             update: update.copy(alloc)?,
         };
         run_event(&event, &mut self.values);
-        add_writes(&mut self.writes, self.starts, &self.values, update.writes())?;
+        add_writes(
+            &mut self.writes,
+            place,
+            self.starts,
+            &self.values,
+            update.writes(),
+        )?;
         Ok(())
     }
 }

@@ -8,7 +8,7 @@ ghost use Rattle.live_replay.specs.Findings.{places_of, read_in_cycle, spans_so}
 use air_base::limits::AGE_CAP;
 use air_base::{ReadOf, VerdictKind};
 
-/// The span of reads with one of this cycle, of whatever item.
+/// The span of reads with one more of this cycle. Its item doesn't matter.
 fn span_with(reads: &[ReadOf], cycle: u32) -> u32
     ensures { (item : ℕ) → result ≡ span (places_of reads.now ++ read_in_cycle item cycle ∷ []) }
 {
@@ -21,7 +21,7 @@ fn span_with(reads: &[ReadOf], cycle: u32) -> u32
     newest - oldest
 }
 
-/// Whether reads with one of this cycle, of whatever item, lie too far apart for the version.
+/// Whether reads with one more of this cycle lie too far apart for the version. Its item doesn't matter.
 #[tactic(auto, unfolding(air_history::specs::Ages::spans_too_far))]
 fn are_far_with(version: u8, reads: &[ReadOf], cycle: u32) -> bool
     ensures { (item : ℕ) → result ≡ are_far version (places_of reads.now ++ read_in_cycle item cycle ∷ []) }

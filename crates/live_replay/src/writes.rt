@@ -7,9 +7,10 @@ use air_base::NoMemory;
 use std::alloc::Global;
 use std::marker::Model;
 
-/// A write of an item: the cycle of its commit, and the value that it left.
+/// A write of an item: the place and the cycle of its commit, and the value that it left.
 #[derive(Clone, Copy, Debug, PartialEq, Eq)]
 pub struct ItemWrite {
+    pub place: u64,
     pub cycle: u32,
     pub value: u64,
 }

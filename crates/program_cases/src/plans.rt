@@ -4,42 +4,20 @@
 //! `in-force` takes a cycle, and asks for its edition.
 
 ghost use Rattle.std.specs.Prelude.{◌≡◌, ◌≤◌, ◌<◌, length};
-ghost use Rattle.air_model.specs.Decks.{count_editions, disks_in, specs_in};
+ghost use Rattle.air_model.specs.Decks.{count_editions, disks_in};
 ghost use Rattle.air_model.specs.Disks.{all_items};
 ghost use Rattle.air_model.specs.Programs.{program as slots_of};
 
 use air_base::limits::MOST_ITEMS;
 use air_base::{NoMemory, write_u64};
 use case_lines::{Parts, add_line};
-use chunk_program::{Cut, PlanFault, Planned, Program, cut};
+use chunk_program::{Cut, PlanFault, Planned, Program, cut, disk_count, disk_freq};
 use item_catalog::Deck;
 use std::alloc::Global;
 
 /// Adds the text of the fault.
 pub fn tell_fault(alloc: Global, fault: &PlanFault, came: &mut Vec<u8>) -> Result<(), NoMemory> {
     add_line(fault.to_string(alloc)?.as_bytes(), &[], came)
-}
-
-/// The number of disks of an edition.
-fn disks_of(deck: &Deck, edition: u32) -> u32
-    requires { edition < count_editions deck.now }
-    ensures { result ≡ length (specs_in deck.now edition) }
-{
-    if edition == 0 {
-        return deck.disks();
-    }
-    deck.replan(edition - 1).disks()
-}
-
-/// The frequency of a disk of an edition.
-fn freq_of(deck: &Deck, edition: u32, disk: u32) -> u32
-    requires edition { edition < count_editions deck.now }
-    requires disk { disk < length (specs_in deck.now edition) }
-{
-    if edition == 0 {
-        return deck.freq(disk);
-    }
-    deck.replan(edition - 1).freq(disk)
 }
 
 /// Adds for each disk its frequency, the number of its chunks and their length.
@@ -49,10 +27,10 @@ fn add_disks(planned: &Planned, edition: u32, out: &mut Vec<u8>) -> Result<(), N
 {
     let deck = planned.deck();
     let program = planned.program(edition);
-    for disk in 0..disks_of(deck, edition) {
+    for disk in 0..disk_count(deck, edition) {
         let numbers = [
             u64::from(disk),
-            u64::from(freq_of(deck, edition, disk)),
+            u64::from(disk_freq(deck, edition, disk)),
             u64::from(program.chunks(disk)),
             u64::from(program.chunk_len(disk)),
         ];

@@ -15,7 +15,7 @@ use Rattle.air_model.specs.Programs.{program}
 use Rattle.air_model.proofs.EditionLemmas.{pix_are}
 use Rattle.chunk_program.specs.Editions.{EditionDisks, Plans, edition_disks, planned_edition, plans_in, program_pix}
 use Rattle.receiver_core.specs.declared.airs.Air.TheInside.{Inside}
-use Rattle.receiver_core.specs.Private.AirFields.{air_in}
+use Rattle.receiver_core.specs.AirFields.{air_in}
 
 -- What receivers know, by its parts.
 abbrev air_with : Policy → ℕ → ℕ → List ℕ → List (List (Option ℕ)) → List (List ℕ) → Air

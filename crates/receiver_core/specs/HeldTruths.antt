@@ -40,6 +40,6 @@ pub record HearsTruly (member : Option Bucket) (before now : Receiver) : Type 0 
   pub keeps : (values : List ℕ) (H : List Event) → SlotsFit before.air → QueriesFilled before.reader →
       WasAired values before.air H member → HoldsTruly before.air H before.reader before.state → HoldsTruly now.air H now.reader now.state
 
--- And when it goes on without hearing anything.
+-- And when it continues without hearing anything.
 pub record StaysTrue (before now : Receiver) : Type 0 where
   pub keeps : (H : List Event) → QueriesFilled before.reader → HoldsTruly before.air H before.reader before.state → HoldsTruly now.air H now.reader now.state

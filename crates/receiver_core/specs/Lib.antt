@@ -1,3 +1,4 @@
+pub mod AirFields
 pub mod ReaderFields
 pub mod ReceiverSteps
 pub mod Receivers

@@ -1,5 +1,4 @@
 -- Definitions that private steps alone speak of: no public contract cites them.
-pub mod AirFields
 pub mod AttemptFields
 pub mod Attempts
 pub mod Offers

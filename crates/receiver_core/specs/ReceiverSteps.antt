@@ -1,4 +1,4 @@
--- One step of a receiver: it settles up to the first line. Settling goes on from there to the same state, `step_law`.
+-- One step of a receiver: it settles up to the first line. Settling continues from there to the same state (`step_law`).
 use Rattle.std.specs.Prelude.{ℕ, zero, suc, cond, nat_lt, length, sum_by}
 use Rattle.air_model.specs.Aired.{Air}
 use Rattle.air_model.specs.Judges.{Judge}

@@ -27,7 +27,7 @@ impl Model for Air {
 
     ghost Value = { Air };
 
-    ghost use Rattle.receiver_core.specs.Private.AirFields.{air_in};
+    ghost use Rattle.receiver_core.specs.AirFields.{air_in};
 
     ghost view = { air_in };
 }
@@ -88,8 +88,8 @@ impl Air {
     pub fn fits(&self, bucket: &BucketView<'_>) -> bool
         ensures { result ≡ fits self.now bucket.now }
     {
-        let edition = self.plans.edition_at(bucket.cycle());
-        if bucket.version() > self.version || u32::from(bucket.edition()) != edition {
+        let edition = u32::from(bucket.edition());
+        if bucket.version() > self.version || !self.plans.is_in_force(edition, bucket.cycle()) {
             return false;
         }
         let program = self.plans.program(edition);

@@ -1,7 +1,7 @@
 //! The reads that an attempt holds, and the one rule for a further read.
 //!
-//! `HeldEntries` has them with their entries, by which the policy's check judges; beside them stand the reads as verdict lines have
-//! them. A further read is of a bucket or of a kept copy. Contracts see the policy and the held reads in order.
+//! `HeldEntries` has them with their entries, by which the policy's check judges; `line_reads` has the same reads as verdict lines
+//! have them. A further read is of a bucket or of a kept copy. Contracts see the policy and the held reads in order.
 
 ghost use Rattle.std.specs.Prelude.{◌≡◌, ℕ, ◌<◌, [], ◌∷◌, ◌++◌, length, map, IfOk, MatchOption};
 ghost use Rattle.air_history.specs.Columns.{scheme_of};
@@ -39,7 +39,7 @@ impl Model for Attempt {
 }
 
 impl Attempt {
-    /// Nothing held, by this policy and over so many items.
+    /// Nothing held, by this policy and over this number of items.
     pub fn new(alloc: Global, policy: Policy, items: u16) -> Result<Attempt, NoMemory>
         ensures { IfOk result (λ a. a ≡ record { policy = policy; items = items; reads = [] }) }
     {
@@ -64,15 +64,15 @@ impl Attempt {
         self.line_reads.as_slice()
     }
 
-    /// Whether a read in this cycle, of whatever item, comes too late after the held ones.
+    /// Whether a read in this cycle comes too late after the held ones, regardless of its item.
     pub fn is_late(&self, cycle: u32) -> bool
         ensures { (item : ℕ) → result ≡ is_late self.now.policy (map place_of self.now.reads) (record { item = item; cycle = cycle }) }
     {
         is_late_under(self.policy, &self.held, cycle)
     }
 
-    /// Whether a read in this cycle, of whatever item, lies too far from the held ones to be judged, where buckets of this version have
-    /// ages: from 2 on.
+    /// Whether a read in this cycle lies too far from the held ones to be judged, regardless of its item. That is so only in versions whose
+    /// buckets have ages: from 2 on.
     pub fn is_far(&self, version: u8, cycle: u32) -> bool
         ensures { (item : ℕ) → result ≡ are_far version (map place_of self.now.reads ++ record { item = item; cycle = cycle } ∷ []) }
     {

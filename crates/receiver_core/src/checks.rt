@@ -31,7 +31,7 @@ pub fn clash_under(
     }
 }
 
-/// Whether a read in this cycle, of whatever item, comes too late after the held ones under the policy.
+/// Whether a read in this cycle comes too late after the held ones under the policy, regardless of its item.
 #[tactic(auto, unfolding(air_history::specs::Clashes::is_late))]
 pub fn is_late_under(policy: Policy, held: &HeldEntries, cycle: u32) -> bool
     ensures { (item : ℕ) → result ≡ is_late policy (map read_at held.now.reads) (record { item = item; cycle = cycle }) }

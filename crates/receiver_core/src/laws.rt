@@ -1,4 +1,4 @@
-//! The laws of a receiver: how handing out line by line comes to settling, what is held of a history, and which item is wanted.
+//! The laws of a receiver: to give out line by line is to settle, what is held of a history, and which item is wanted.
 //!
 //! Each function's contract is one law; the bodies are empty.
 
@@ -14,7 +14,7 @@ ghost use Rattle.air_model.specs.Sessions.{Reader, State, end_query, hear, query
 ghost use Rattle.receiver_core.specs.HeldTruths.{HoldsTruly, WasAired, first_unheld};
 ghost use Rattle.receiver_core.specs.ReceiverSteps.{step};
 
-/// After a step settling comes to the same as before it. A step that gives no line settles.
+/// After a step settling gives the same state as before it. A step that gives no line settles.
 pub fn step_law()
     ensures steps { (judge : Judge) (air : Air) (reader : Reader) (s : State) →
         settle judge air reader (step judge air reader s) ≡ settle judge air reader s }

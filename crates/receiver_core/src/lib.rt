@@ -14,4 +14,5 @@ mod readers;
 mod reads;
 pub mod receivers;
 
+pub use airs::Air;
 pub use receivers::{Fed, Receiver, Step};

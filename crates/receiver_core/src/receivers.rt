@@ -48,7 +48,7 @@ pub enum Fed {
     Opened,
 }
 
-/// What a step of a receiver came to.
+/// The result of a receiver's step.
 #[derive(Clone, Copy, Debug, PartialEq, Eq)]
 pub enum Step {
     /// A verdict; `last_reads` has its reads.
@@ -175,7 +175,7 @@ impl Receiver {
         }
     }
 
-    /// Hears so many buckets of which none is wanted, the newest of this cycle: they are counted, and none need be at hand.
+    /// Hears this number of buckets, the newest of this cycle, of which it wants none: it counts them, and doesn't look at them.
     pub fn doze(&mut self, buckets: u64, cycle: u32)
         requires settled { IsSettled self.old }
         requires counts { heard_count self.old.state.counts + buckets < 2 ^ 64 }
@@ -193,7 +193,7 @@ impl Receiver {
         self.counts.dozed += buckets;
     }
 
-    /// Hands out the verdict that waits, or goes on up to the next one.
+    /// Gives out the verdict that waits, or continues up to the next one.
     pub fn step(&mut self) -> Step
         ensures state { record self.new.state { lines = lines_given result self.new.last } ≡ state_after_step self.old }
         ensures given { self.new.state.lines ≡ [] }
@@ -243,7 +243,7 @@ impl Receiver {
         self.last.as_slice()
     }
 
-    /// The wanted item: the first of the query that isn't held; none where no query is left.
+    /// The wanted item: the first of the query that isn't held; nothing if no query is left.
     pub fn wanted(&self) -> Option<u16>
         ensures told { result ≡ wanted self.now.reader self.now.state }
         ensures first { result ≡ first_unheld self.now.reader self.now.state }

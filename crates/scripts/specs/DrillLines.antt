@@ -1,4 +1,4 @@
--- The line of a drill: what the script of its deck comes to on the air, in numbers. The deck is that of the seed and the size, and
+-- The line of a drill: the result of its deck's script on the air, in numbers. The deck is that of the seed and the size, and
 -- each reader hears its own ether of the tape, as in `script`.
 use Rattle.std.specs.Prelude.{ℕ, Bool, true, false, not, List, [], ◌∷◌, codes, count_by, length, map, sum}
 use Rattle.air_base.specs.declared.verdicts.Counts.{Counts}

@@ -1,4 +1,4 @@
--- How far a run of a deck's script is that goes on piece by piece.
+-- How far a run of a deck's script is that continues piece by piece.
 use Rattle.std.specs.Prelude.{◌≡◌, ℕ, ◌+◌, ◌*◌, ◌<◌, ◌≤◌, length, get_or, take}
 use Rattle.air_history.specs.Boards.{board_of}
 use Rattle.air_model.specs.Buckets.{entry_len}

@@ -1,4 +1,4 @@
-//! A drill: the script of a deck that is made from a seed and a size, and what it came to in one line.
+//! A drill: the script of a deck that is made from a seed and a size, and its result in one line.
 
 ghost use Rattle.std.specs.Prelude.{◌≡◌, ◌≤◌, IfOk};
 ghost use Rattle.air_model.specs.Outputs.{script_tape};

@@ -1,6 +1,6 @@
 //! A deck's script on the air: its events, the buckets of the cycles that they start, and the sessions of the deck's readers.
 //!
-//! `PieceRun` airs some cycles at a time (`piece_runs`), and its pieces, one behind the other, are what the script's whole history
+//! `PieceRun` airs some cycles at a time (`piece_runs`), and its pieces, one after another, are what the script's whole history
 //! airs. `ScriptAiring` has the readers hear each piece (`script_airing`), and `air_script` goes through all pieces and gives each to a
 //! sink (`whole_scripts`, `sinks`). `run_drill` does so for the deck of a drill, keeps no piece, and sums up what came of it (`drills`).
 #![tactic(auto)]

@@ -1,7 +1,7 @@
 //! A run of a deck's script piece by piece: some cycles at a time, each piece with the buckets of its own cycles alone.
 //!
-//! The buckets of the pieces, one piece behind the other, are those of the script's whole history: so no more than one piece of
-//! the tape need be kept, and one mast gathers them all.
+//! The buckets of the pieces, one piece after another, are those of the script's whole history: so no more than one piece of the tape
+//! has to be kept, and one mast gathers them all.
 
 ghost use Rattle.std.specs.Prelude.{◌≡◌, ◌↔◌, ◌<◌, ◌≤◌, ◌+◌, ◌*◌, ◌++◌, ◌∷◌, [], ℕ, List, None, false, cond, IfOk, IsTrue, OnOk, get_or, length, take};
 ghost use Rattle.air_base.specs.declared.limits.TheConstants.{MOST_TAPE_BYTES};
@@ -62,9 +62,9 @@ impl PieceRun {
         self.events.len() == planned.deck().script_len() as usize
     }
 
-    /// Runs on until so many cycles were aired, or to the end of the script: afterwards the mast has the buckets of these cycles alone.
-    /// The mast wants room for so many cycles, as `tape_bytes` tells it; a send that it has no room for counts as out of memory. The run is
-    /// kept from `new` on, until a call runs out of memory.
+    /// Runs until `cycles` more cycles were aired, or to the end of the script: afterwards the mast has the buckets of these cycles alone.
+    /// The mast needs room for them, as `tape_bytes` tells; a send without room counts as out of memory. The run is kept from `new` on,
+    /// until a call runs out of memory.
     pub fn next_piece(
         &mut self,
         alloc: Global,
@@ -115,8 +115,8 @@ impl PieceRun {
         Ok(started)
     }
 
-    /// Runs the next event, and lets all readers hear what it airs: from the board, so a bucket is encoded only where a reader opens it. They
-    /// are let go where memory runs out.
+    /// Runs the next event, and lets all readers hear what it airs: from the board, so a bucket is encoded only if a reader opens it. If
+    /// memory runs out, the readers are dropped.
     pub fn next_heard(
         &mut self,
         alloc: Global,

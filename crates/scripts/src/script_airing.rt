@@ -29,7 +29,8 @@ pub struct ScriptAiring {
 }
 
 impl ScriptAiring {
-    /// Nothing was aired yet; a piece is to have so many cycles, and the mast has room for the tape of as many of the longest edition.
+    /// Nothing was aired yet. A piece is to have `cycles` cycles, and the mast has room for the tape of that number of cycles of the longest
+    /// edition.
     pub fn new(alloc: Global, planned: &Planned, cycles: u32) -> Result<ScriptAiring, NoMemory>
         requires { 1 ≤ cycles }
         ensures kept { IfOk result (IsAiring planned.now) }

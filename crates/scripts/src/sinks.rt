@@ -1,10 +1,10 @@
-//! Where the pieces of a tape go: a sink takes them, one behind another, into an output.
+//! Where the pieces of a tape go: a sink takes them, one after another, into an output.
 
 ghost use Rattle.std.specs.Prelude.{◌++◌, ℕ, List, IfErr, OnOk, ⊤};
 
 use air_base::NoMemory;
 
-/// Takes the pieces of a tape, one behind another, into an output.
+/// Takes the pieces of a tape, one after another, into an output.
 pub trait PieceSink<P> {
     /// Why a piece isn't taken, or that memory ran out.
     type Fault: From<NoMemory>;
@@ -15,7 +15,7 @@ pub trait PieceSink<P> {
     /// A beginning of these bytes was taken since the output was as at first, and then the sink failed.
     ghost HasFailed: { Self → List ℕ → P → P → Self.Fault → Type 0 };
 
-    /// Takes a piece behind those before.
+    /// Takes the next piece, after those before.
     fn take(&self, output: &mut P, piece: &[u8]) -> Result<(), Self::Fault>
         ensures taken { (first : P) (so_far : List ℕ) → HasTaken self.now so_far first output.old →
             OnOk result (HasTaken self.now (so_far ++ piece.now) first output.new) }

@@ -19,15 +19,15 @@ use listeners::{Sessions, end_all, is_perfect, listeners_of};
 use std::alloc::Global;
 use std::thread::Threads;
 
-/// What a script comes to on the air: its history, and what the sessions of the deck's readers tell.
+/// The result of a script on the air: its history, and what the sessions of the deck's readers tell.
 #[derive(Drop)]
 pub struct AiredScript {
     pub events: Vec<Event>,
     pub sessions: Sessions,
 }
 
-/// Airs the script of a deck piece by piece: each reader hears its own ether of the tape, and the sink takes the piece. No more of the
-/// tape than a piece is kept, beside what waits in the ethers. Told of the moment when nothing was taken.
+/// Airs the script of a deck piece by piece: each reader hears its own ether of the tape, and the sink takes the piece. Of the tape one
+/// piece is kept, and what waits in the ethers. Told of the moment when nothing was taken.
 pub fn air_script<T: Threads + Sync, P, S: PieceSink<P>>(
     threads: &T,
     alloc: Global,

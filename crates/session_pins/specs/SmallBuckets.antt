@@ -16,7 +16,11 @@ item_bytes cycle item value = 0x41 ∷ 0x44 ∷ 1 ∷ 1 ∷ 0 ∷ 0 ∷ 0 ∷ 2 
 abbrev pub both_records : TapeRead
 both_records = record { records = item_bytes 1 0 10 ∷ item_bytes 1 1 20 ∷ []; cut = None }
 
--- That tape: each bucket with its length before it.
+-- What a tape of the second of them alone holds.
+abbrev pub second_record : TapeRead
+second_record = record { records = item_bytes 1 1 20 ∷ []; cut = None }
+
+-- The tape of both: each bucket with its length before it.
 abbrev pub pair_tape : List ℕ
 pair_tape = 0 ∷ 0 ∷ 0 ∷ 32 ∷ item_bytes 1 0 10 ++ 0 ∷ 0 ∷ 0 ∷ 32 ∷ item_bytes 1 1 20
 

@@ -19,3 +19,7 @@ accepted number = listener_in number (record start {
   counts = counts 2 0 0 0 0 0;
   lines = session_line 0 1 Accept (value_read 0 1 10 ∷ value_read 1 1 20 ∷ []) ∷ [];
 })
+
+-- The asker as the reader of a number, which has slept through the bucket of item 1 in cycle 1.
+abbrev pub asleep : ℕ → Listener
+asleep number = listener_in number (record start { now = 1; counts = counts 0 1 0 0 0 0 })

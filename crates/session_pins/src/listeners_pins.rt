@@ -6,9 +6,9 @@ ghost use Rattle.air_base.specs.declared.verdicts.VerdictKind.TheVariants.{Unfin
 ghost use Rattle.air_model.specs.Buckets.{Column};
 ghost use Rattle.air_model.specs.Sessions.{start};
 ghost use Rattle.air_model.specs.Tapes.{tape_read};
-ghost use Rattle.session_pins.specs.SmallBuckets.{both_records, bucket};
+ghost use Rattle.session_pins.specs.SmallBuckets.{both_records, bucket, second_record};
 ghost use Rattle.session_pins.specs.SmallDecks.{noisy};
-ghost use Rattle.session_pins.specs.SmallListeners.{accepted, listener_in};
+ghost use Rattle.session_pins.specs.SmallListeners.{accepted, asleep, listener_in};
 ghost use Rattle.session_pins.specs.SmallReceivers.{counted, counts, first_query_line, heard as heard_read, holding, value_read};
 
 use air_base::NoMemory;
@@ -74,6 +74,20 @@ pub fn piece_heard_in_two_orders<T: Threads + Sync>(
     requires readers { readers.old ≡ listener_in 0 start ∷ listener_in 1 start ∷ [] }
     requires tape { tape_read tape.now ≡ both_records }
     ensures { OnOk result (readers.new ≡ accepted 0 ∷ accepted 1 ∷ []) }
+{
+    readers.hear(threads, alloc, tape)
+}
+
+/// A bucket that no reader wants is counted by each of them, and makes its cycle the newest that they heard.
+pub fn unwanted_bucket_uncounted<T: Threads + Sync>(
+    readers: &mut Together,
+    threads: &T,
+    alloc: Global,
+    tape: &[u8],
+) -> Result<(), NoMemory>
+    requires readers { readers.old ≡ listener_in 0 start ∷ listener_in 1 start ∷ [] }
+    requires tape { tape_read tape.now ≡ second_record }
+    ensures { OnOk result (readers.new ≡ asleep 0 ∷ asleep 1 ∷ []) }
 {
     readers.hear(threads, alloc, tape)
 }

@@ -84,6 +84,22 @@ pub fn offer_left_out_after_an_abort(
     receiver.hear(heard)
 }
 
+/// Each bucket that is slept through is counted as dozed, and the newest of their cycles is the newest heard one (time stops while dozing).
+pub fn dozed_buckets_uncounted(receiver: &mut Receiver)
+    requires { receiver.old ≡ asker_in (air_by FMatrix) (holding 1) }
+    ensures { receiver.new.state ≡ record (holding 1) { now = 4; counts = counts 1 3 0 0 0 0 } }
+{
+    receiver.doze(3, 4)
+}
+
+/// Where an older cycle is slept through, the newest heard one stays.
+pub fn time_set_back_by_dozing(receiver: &mut Receiver)
+    requires { receiver.old ≡ asker_in (air_by FMatrix) (holding 5) }
+    ensures { receiver.new.state ≡ record (holding 5) { counts = counts 1 2 0 0 0 0 } }
+{
+    receiver.doze(2, 3)
+}
+
 /// An item's PIX number is its rate times the number of its disk's chunks: for item 0 twice two, and for item 1 three times one.
 pub fn cache_by_rate(alloc: Global, deck: &Deck, plans: &Plans) -> Result<Receiver, NoMemory>
     requires deck { deck.now ≡ tiered }

@@ -2,11 +2,11 @@
 
 ghost use Rattle.std.specs.Prelude.{◌≡◌, IfErr, IfOk, OnOk};
 ghost use Rattle.air_model.specs.Outputs.{plan_output};
+ghost use Rattle.chunk_program.specs.Plans.{AreShort};
 ghost use Rattle.air_cli.specs.Private.BeforeDelivery.{IsMade, IsUnmade, ReadsInputs};
 ghost use Rattle.air_cli.specs.Plan.{plan_meaning};
-ghost use Rattle.air_cli.specs.RunnableDecks.{HasShortPrograms, LengthCause};
+ghost use Rattle.air_cli.specs.RunnableDecks.{LengthCause};
 
-mod disks;
 mod rows;
 mod texts;
 
@@ -23,7 +23,7 @@ use std::alloc::Global;
 #[tactic(auto, unfolding(crate::specs::RunnableDecks::LengthCause))]
 fn text_of_plan(alloc: Global, deck: Deck) -> Result<Vec<u8>, Status>
     ensures text { IfOk result (λ text. text.items ≡ plan_output deck) }
-    ensures short { OnOk result (HasShortPrograms deck) }
+    ensures short { OnOk result (AreShort deck) }
     ensures refused { IfErr result (LengthCause deck) }
 {
     let planned = plan_deck(alloc, deck)?;

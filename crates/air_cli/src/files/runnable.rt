@@ -2,9 +2,10 @@
 
 ghost use Rattle.std.specs.Prelude.{IfErr, IfOk};
 ghost use Rattle.air_model.specs.Decks.{IsDeck};
+ghost use Rattle.chunk_program.specs.Plans.{AreShort};
 ghost use Rattle.air_cli.specs.NamedFiles.{ReadsInput};
 ghost use Rattle.air_cli.specs.NamedDecks.{SpellsDeck};
-ghost use Rattle.air_cli.specs.RunnableDecks.{HasShortPrograms, UnrunnableCause};
+ghost use Rattle.air_cli.specs.RunnableDecks.{UnrunnableCause};
 
 use crate::files::decks::read_deck_file;
 use crate::files::plans::plan_deck;
@@ -22,7 +23,7 @@ pub fn read_runnable_deck<S: Shelf>(
 ) -> Result<Planned, Status>
     ensures deck { IfOk result (SpellsDeck name.now (S.state shelf.old)) }
     ensures made { IfOk result IsDeck }
-    ensures runnable { IfOk result HasShortPrograms }
+    ensures runnable { IfOk result AreShort }
     ensures refused { IfErr result (UnrunnableCause name.now (S.state shelf.old) (S.state shelf.new)) }
     ensures reads { ReadsInput name.now result (S.state shelf.old) (S.state shelf.new) }
 {

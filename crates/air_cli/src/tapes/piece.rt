@@ -1,7 +1,7 @@
 //! The piece of a tape that is in memory: one buffer, which is used again for each.
 //!
-//! Contracts see the bytes that were read and not let go, and the room. The buffer is made longer where there is no room for one
-//! byte more: where a record is longer than it.
+//! Contracts see the bytes that were read and not dropped, and the room. If a record is longer than the buffer, so that there is no room for
+//! one byte more, the buffer is made longer.
 
 ghost use Rattle.std.specs.Prelude.{◌≡◌, ◌≤◌, ◌<◌, ◌+◌, ◌-◌, [], drop, length, take, vec_len, IfOk, OnOk};
 ghost use Rattle.air_devices.specs.Counts.{TellsFailureIn, reading_of};
@@ -13,7 +13,7 @@ use air_devices::{Failed, Shelf};
 use std::alloc::Global;
 use std::marker::Model;
 
-/// The bytes of a tape that were read and not let go.
+/// The bytes of a tape that were read and not dropped.
 #[derive(Drop)]
 pub(crate) struct Piece {
     buffer: Vec<u8>,
@@ -48,8 +48,8 @@ impl Piece {
         &self.buffer[..self.len]
     }
 
-    /// Reads on in the named file, up to `most` bytes and one: what comes goes behind what is here. Nothing comes only at the end
-    /// of the file.
+    /// Reads more of the named file, up to `most` bytes and one, and adds it after what is here. Nothing is added only at the end of
+    /// the file.
     pub fn read<S: Shelf>(
         &mut self,
         shelf: &mut S,

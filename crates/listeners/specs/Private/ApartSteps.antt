@@ -9,7 +9,7 @@ use Rattle.listeners.specs.declared.ethers.EtherListener.{EtherListener}
 use Rattle.listeners.specs.EtherListeners.{HeardDue, IsOpen}
 use Rattle.listeners.specs.Listeners.{Listener, hears}
 
--- The reader heard what is due of these records too: whatever list had been pushed before, it is now that list and the records.
+-- The reader heard what is due of these records too: after any list that had been pushed before, these records were pushed.
 pub record HearsPiece (records : List (List ℕ)) (before now : EtherListener) : Type 0 where
   pub opened : IsOpen now
   pub room : now.ether.most ≡ before.ether.most

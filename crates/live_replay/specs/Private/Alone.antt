@@ -1,22 +1,25 @@
--- For private steps alone. Marks of places of a history.
-use Rattle.std.specs.Prelude.{◌≡◌, ℕ, ◌<◌, Bool, false, List, length, get_or, Option}
+-- For private steps alone. Commits that come after the origins of reads.
+use Rattle.std.specs.Prelude.{ℕ, ◌&&◌, ◌||◌, Bool, true, false, get_or, List, Option, Some, None, nat_lt}
 use Rattle.std.specs.List.{list_any}
 use Rattle.air_history.specs.declared.histories.Event.{Event}
-use Rattle.air_history.specs.Places.{place_and}
-use Rattle.air_history.specs.Descents.{descends}
-use Rattle.air_history.specs.Reads.{ReadAt}
-use Rattle.air_history.specs.Consistency.{runs_alone}
+use Rattle.air_history.specs.Histories.{event_at, writes, writes_of}
+use Rattle.air_history.specs.Places.{same_place}
+use Rattle.air_history.specs.Reads.{ReadAt, origin}
 
--- Whether one of these origins descends from the commit at place p.
-abbrev pub one_descends : List Event → List (Option ℕ) → ℕ → Bool
-one_descends H origins p = list_any (λ o. place_and o (λ w. descends H w p)) origins
+-- The place of an origin, 0 if there is none.
+abbrev pub first_or_none : Option ℕ → ℕ
+first_or_none None = 0
+first_or_none (Some w) = w
 
--- The places are marked from which one of these origins descends.
-pub record MarksDescents (H : List Event) (origins : List (Option ℕ)) (marks : List Bool) : Type 0 where
-  pub sized : length marks ≡ length H
-  pub marked : (p : ℕ) → p < length H → get_or marks p false ≡ one_descends H origins p
+-- Whether a place comes after an origin; if there is none, each place does.
+abbrev pub is_after : Option ℕ → ℕ → Bool
+is_after None p = true
+is_after (Some w) p = nat_lt w p
 
--- The places are marked that run alone, for these reads.
-pub record MarksAlone (H : List Event) (R : List ReadAt) (marks : List Bool) : Type 0 where
-  pub sized : length marks ≡ length H
-  pub marked : (p : ℕ) → p < length H → get_or marks p false ≡ runs_alone H R p
+-- Whether the commit at a place writes the item of one of the reads after its origin.
+abbrev pub comes_late : List Event → List ReadAt → ℕ → Bool
+comes_late H R p = list_any (λ r. writes (event_at H p) r.item && is_after (origin H r) p) R
+
+-- Whether one of these origins is at the place, or its commit writes an item that is looked for.
+abbrev pub is_met : List Event → List (Option ℕ) → ℕ → List Bool → Bool
+is_met H origins p sought = list_any (λ o. same_place o (Some p)) origins || list_any (λ w. get_or sought w.item false) (writes_of (event_at H p))

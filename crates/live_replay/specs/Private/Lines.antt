@@ -6,14 +6,14 @@ use Rattle.air_history.specs.Reads.{IsRead}
 use Rattle.air_model.specs.declared.reports.VerdictLine.{VerdictLine}
 use Rattle.live_replay.specs.Findings.{places_of}
 
--- The cycle of a refused read is one of the first so many.
+-- The cycle of a refused read is no later than the last start.
 abbrev pub EndFits : ℕ → VerdictKind → Type 0
 EndFits starts Accept = ⊤
 EndFits starts (Abort item cycle clash) = cycle ≤ starts
 EndFits starts (Aged item cycle) = cycle ≤ starts
 EndFits starts Unfinished = ⊤
 
--- The items of a line are below n, and its reads are of cycles from 1 on, of the first so many.
+-- The items of a line are below n. Its reads are of cycles from 1 to the last start.
 pub record LineFits (n starts : ℕ) (line : VerdictLine) : Type 0 where
   pub items : All (λ r. r.item < n) line.reads
   pub begun : All IsRead (places_of line.reads)

@@ -15,12 +15,12 @@ named_by H (StaleAt c) = λ r. stale H r c
 named_by H (OfCycle c) = λ r. r.cycle == c
 named_by H (ApartFrom x) = λ r. not (consistent H (r ∷ place_of_line x ∷ []))
 
--- The clash where held reads are named so, or none is.
+-- The clash, if held reads are named so or none is.
 abbrev pub clash_named : List Event → Option Naming → List ReadAt → Option Clash
 clash_named H None R = None
 clash_named H (Some naming) R = named_clash (named_by H naming) R
 
--- The cycle at which origins are asked for is one of the first so many.
+-- The cycle at which origins are asked for is no later than the last start.
 abbrev pub NamesWithin : ℕ → Naming → Type 0
 NamesWithin starts (StaleAt c) = c ≤ starts
 NamesWithin starts (OfCycle c) = ⊤

@@ -9,11 +9,11 @@ use Rattle.live_replay.specs.declared.running.ReplayState.{ReplayState}
 use Rattle.live_replay.specs.declared.writes.ItemWrite.{ItemWrite}
 use Rattle.live_replay.specs.Private.Writes.{writes_from}
 
--- A write of each item that these write, where a commit of this cycle left these values.
-abbrev pub added_write : ℕ → List ℕ → List Write → ℕ → List ItemWrite
-added_write cycle values ws i = cond (list_any (λ w. w.item == i) ws) (record { cycle = cycle; value = get_or values i 0 } ∷ []) []
+-- A write of each item that these write, where the commit at a place, of this cycle, left these values.
+abbrev pub added_write : ℕ → ℕ → List ℕ → List Write → ℕ → List ItemWrite
+added_write place cycle values ws i = cond (list_any (λ w. w.item == i) ws) (record { place = place; cycle = cycle; value = get_or values i 0 } ∷ []) []
 
--- What is kept is that of the first n events, where the catalog has these values.
+-- What is kept is that of the first n events, if the catalog has these values.
 pub record IsReplayOfFirst (V : List ℕ) (H : List Event) (n : ℕ) (run : ReplayState) : Type 0 where
   pub counted : length run.values.items ≡ length V
   pub values : (i : ℕ) → get_or run.values.items i 0 ≡ table (values_of V) (take n H) i

@@ -5,9 +5,9 @@ use Rattle.air_history.specs.Histories.{writes, event_at, cycle_at, front}
 use Rattle.air_history.specs.Tables.{table, values_of}
 use Rattle.live_replay.specs.declared.writes.ItemWrite.{ItemWrite}
 
--- The write of an item at a place, where the catalog has these values.
+-- The write of an item at a place, if the catalog has these values.
 unfoldable pub write_at : List ℕ → List Event → ℕ → ℕ → ItemWrite
-write_at V H i p = record { cycle = cycle_at H p; value = table (values_of V) (take (p + 1) H) i }
+write_at V H i p = record { place = p; cycle = cycle_at H p; value = table (values_of V) (take (p + 1) H) i }
 
 -- The writes of an item at the n places from m on, in order.
 unfoldable pub writes_from : List ℕ → List Event → ℕ → ℕ → ℕ → List ItemWrite

@@ -62,7 +62,7 @@ fn audit_read(
     }
 }
 
-/// Audits are true, by the laws of replays. The calls do nothing.
+/// Gives a caller's proof that audits are true, by the laws of replays. The calls do nothing.
 fn shows_audit_truth(deck: &Deck)
     ensures { (read : ReadReport) → IsTrueAudit deck.now read }
 {

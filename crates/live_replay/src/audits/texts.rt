@@ -1,6 +1,6 @@
 //! The text of an audit's findings: a row for each, and one that counts them.
 
-ghost use Rattle.std.specs.Prelude.{◌≡◌, ◌++◌, IfOk, count_by, map};
+ghost use Rattle.std.specs.Prelude.{◌≡◌, ◌++◌, IfOk, OnOk, count_by, map};
 ghost use Rattle.csv.specs.Writing.{row_text};
 ghost use Rattle.air_model.specs.Rows.{row_writer, rows_text};
 ghost use Rattle.air_report.specs.RowWriters.{IsRowWriter, written_text};
@@ -8,7 +8,7 @@ ghost use Rattle.live_replay.specs.FindingTexts.{cause_word, differs, finding_ro
 
 use crate::findings::{Cause, Finding};
 use air_base::{NoMemory, write_u64};
-use air_report::{finish, put_numbers, put_row, row_writer};
+use air_report::{finish, put_numbers, row_writer};
 use csv::Writer;
 use std::alloc::Global;
 
@@ -16,7 +16,8 @@ use std::alloc::Global;
 pub fn findings_text(alloc: Global, found: &[Finding]) -> Result<Vec<u8>, NoMemory>
     ensures { IfOk result (λ text. text.items ≡ findings_text found.now) }
 {
-    let wtr = put_findings(alloc, row_writer(Vec::new(alloc)), found)?;
+    let mut wtr = row_writer(Vec::new(alloc));
+    put_findings(alloc, &mut wtr, found)?;
     let ns = [found.len() as u64, differing_count(found)];
     let wtr = put_numbers(alloc, wtr, b"audited", &ns)?;
     let text = finish(wtr)?;
@@ -36,42 +37,43 @@ pub(crate) fn differing_count(found: &[Finding]) -> u64
     count
 }
 
-/// The writer with the rows of findings added.
-fn put_findings(
-    alloc: Global,
-    wtr: Writer<Vec<u8>>,
-    found: &[Finding],
-) -> Result<Writer<Vec<u8>>, NoMemory>
-    requires { IsRowWriter wtr }
-    ensures ready { IfOk result IsRowWriter }
-    ensures text { IfOk result (λ more. written_text more ≡ written_text wtr ++ rows_text (map finding_row found.now)) }
+/// Adds the rows of findings. The writer stays in its place: it has a buffer, so moving it costs more than a row.
+fn put_findings(alloc: Global, wtr: &mut Writer<Vec<u8>>, found: &[Finding]) -> Result<(), NoMemory>
+    requires { IsRowWriter wtr.old }
+    ensures ready { OnOk result (IsRowWriter wtr.new) }
+    ensures text { OnOk result (written_text wtr.new ≡ written_text wtr.old ++ rows_text (map finding_row found.now)) }
 {
-    let mut wtr = wtr;
     for finding in found {
-        wtr = put_finding(alloc, wtr, *finding)?;
+        put_finding(alloc, wtr, *finding)?;
     }
-    Ok(wtr)
+    Ok(())
 }
 
-/// The writer with the row of a finding added.
-fn put_finding(
-    alloc: Global,
-    wtr: Writer<Vec<u8>>,
-    finding: Finding,
-) -> Result<Writer<Vec<u8>>, NoMemory>
-    requires { IsRowWriter wtr }
-    ensures ready { IfOk result IsRowWriter }
-    ensures text { IfOk result (λ more. written_text more ≡ written_text wtr ++ row_text row_writer (finding_row finding)) }
+/// Adds the row of a finding.
+fn put_finding(alloc: Global, wtr: &mut Writer<Vec<u8>>, finding: Finding) -> Result<(), NoMemory>
+    requires { IsRowWriter wtr.old }
+    ensures ready { OnOk result (IsRowWriter wtr.new) }
+    ensures text { OnOk result (written_text wtr.new ≡ written_text wtr.old ++ row_text row_writer (finding_row finding)) }
 {
     let mut row = Vec::new(alloc);
     write_u64(u64::from(finding.row), &mut row)?;
     match finding.differs {
-        None => put_row(wtr, &[b"agrees".as_slice(), row.as_slice()]),
-        Some(cause) => put_row(
+        None => add_row(wtr, &[b"agrees".as_slice(), row.as_slice()]),
+        Some(cause) => add_row(
             wtr,
             &[b"differs".as_slice(), row.as_slice(), cause_word(cause)],
         ),
     }
+}
+
+/// Adds the row of these fields.
+fn add_row<'a>(wtr: &mut Writer<Vec<u8>>, fields: &[&'a [u8]]) -> Result<(), NoMemory>
+    requires { IsRowWriter wtr.old }
+    ensures ready { OnOk result (IsRowWriter wtr.new) }
+    ensures text { OnOk result
+        (written_text wtr.new ≡ written_text wtr.old ++ row_text row_writer (map (λ f. f.now) fields.now)) }
+{
+    wtr.write_fields(fields).map_err(|_| NoMemory)
 }
 
 /// The word of a cause.

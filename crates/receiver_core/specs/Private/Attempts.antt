@@ -9,7 +9,7 @@ use Rattle.air_model.specs.Reads.{Read}
 use Rattle.air_model.specs.Sessions.{is_wanted}
 use Rattle.air_history.specs.HeldReads.{HeldReads}
 
--- The held reads over so many items, each with its value and the entries that came with it.
+-- The held reads over a number of items, each with its value and the entries that were heard with it.
 pub record HeldValues : Type 0 where
   pub policy : Policy
   pub items : ℕ

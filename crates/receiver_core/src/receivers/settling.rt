@@ -70,8 +70,8 @@ impl Receiver {
     }
 }
 
-/// Whether a copy of this cycle, of whatever item, is too old now, or comes too late after the held reads, or lies too far from them
-/// in this version.
+/// Whether a copy of this cycle is too old now, or comes too late after the held reads, or lies too far from them in this version,
+/// regardless of its item.
 fn is_stale(held: &Attempt, version: u8, cycle: u32, latest: u32, age: u32) -> bool
     ensures { (item : ℕ) → result ≡ (nat_lt age (latest - cycle) || is_late held.now.policy (map place_of held.now.reads) (record { item = item; cycle = cycle })
         || are_far version (map place_of held.now.reads ++ record { item = item; cycle = cycle } ∷ [])) }

@@ -12,11 +12,10 @@ ghost use Rattle.air_model.specs.PlanTexts.{disk_row, edition_rows, item_row, mi
 ghost use Rattle.air_model.specs.Rows.{row_writer, rows_text};
 ghost use Rattle.air_report.specs.RowWriters.{IsRowWriter, written_text};
 
-use crate::commands::plan::disks::{disk_count, disk_freq};
 use air_base::{NoMemory, write_u64};
 use air_model::program::slots_law;
 use air_report::{put_numbers, put_row};
-use chunk_program::{Planned, Program};
+use chunk_program::{Planned, Program, disk_count, disk_freq};
 use csv::Writer;
 use std::alloc::Global;
 

@@ -1,38 +1,47 @@
-use Rattle.std.proofs.Common.{◌∙◌, map, take, refl, ap, subst, sym, arith}
-use Rattle.std.proofs.lemmas.List.{length-map, length-take, take_all}
-use Rattle.std.specs.Prelude.{IfOk}
-use Rattle.std.specs.Result.{result_ok}
-use Rattle.air_model.specs.Buckets.{IsInRange}
+use Rattle.std.proofs.Common.{◌≡◌, ◌-◌, ◌∙◌, ℕ, Option, map, refl, length, ap, sym, subst, arith}
+use Rattle.std.specs.List.{range_with_len}
+use Rattle.std.proofs.lemmas.List.FromFn.{length-map-range_with_len}
+use Rattle.air_model.specs.Buckets.{Bucket}
 use Rattle.receiver_core.specs.Receivers.{heard_count}
 use Rattle.listeners.specs.Listeners.{Listener, hears}
-use Rattle.listeners.proofs.HearLemmas.{counted_all, hears_more}
+use Rattle.listeners.specs.Private.JudgedPieces.{IsJudged, member_at}
+use Rattle.listeners.proofs.HearLemmas.{counted_all}
+use Rattle.listeners.proofs.JudgedLemmas.{all_members}
+use Rattle.listeners.proofs.SleepLemmas.{stretches}
 use Rattle.listeners.proofs.pieces.hear_piece.Goals as goal
 
-pub loop-heard-init : goal.loop-heard-init
+pub loop-place-init : goal.loop-place-init
 unfolding hears
-loop-heard-init c = refl
+loop-place-init c = record { within = omega arith; heard = refl; air = refl }
 
-pub hear-requires-clause-counts : goal.hear-requires-clause-counts
-hear-requires-clause-counts c =
-    let piece = c.args.piece.now in
-    let k = c.loop-heard.heard-index in
-    let heard = map result_ok (take k piece) in
-    let same = ap (λ (l : Listener). heard_count l.state.counts) c.loop-heard.invariant in
+pub hear_from-requires-clause-counts : goal.hear_from-requires-clause-counts
+hear_from-requires-clause-counts c =
+    let on = member_at c.args.piece.now.heard.items in
+    let heard = map on (range_with_len 0 c.loop-place.place) in
+    let same = ap (λ (l : Listener). heard_count l.state.counts) c.loop-place.invariant.heard in
     let counted = counted_all heard c.args.listener.now in
-    let long = length-map (take k piece) result_ok in
-    let part = length-take k piece in
-    let within = c.loop-heard-test.true in
+    let long = length-map-range_with_len on 0 c.loop-place.place in
+    let within = c.loop-place.invariant.within in
     let room = c.requires.counts in
-    omega (arith, same, counted, long, part, within, room)
+    omega (arith, same, counted, long, within, room)
 
-pub hear-requires-clause-range : goal.hear-requires-clause-range
-hear-requires-clause-range c = subst (λ h. IfOk h IsInRange) (sym c.heard-item.is) (c.requires.range c.loop-heard.heard-index c.heard-item.result c.loop-heard-test.true)
+pub hear_from-requires-clause-judged : goal.hear_from-requires-clause-judged
+hear_from-requires-clause-judged c = subst (λ a. IsJudged a c.args.piece.now) (sym c.loop-place.invariant.air) c.requires.judged
 
-pub loop-heard-preserved : goal.loop-heard-preserved
-loop-heard-preserved c =
-    hears_more result_ok c.args.piece.now c.loop-heard.heard-index c.heard-item.result c.args.listener.now c.loop-heard.listener c.hear.new.self c.loop-heard-test.true c.heard-item.is
-    c.loop-heard.invariant c.in_ok-hear.ensures.heard
+pub loop-place-preserved : goal.loop-place-preserved
+loop-place-preserved c =
+    let on : ℕ → Option Bucket = member_at c.args.piece.now.heard.items in
+    let next = c.in_ok-place.ensures.next in
+    let from = next.0 in
+    record {
+      within = next.1;
+      heard = stretches on c.loop-place.place c.in_ok-place.place c.args.listener.now c.loop-place.listener c.hear_from.new.self (omega arith) c.loop-place.invariant.heard c.in_ok-place.ensures.heard;
+      air = c.hear_from.ensures.air ∙ c.loop-place.invariant.air;
+    }
 
-pub returns : goal.returns
-returns c =
-    c.loop-heard.invariant ∙ ap (λ l. hears (map result_ok l) c.args.listener.now) (take_all c.loop-heard.heard-index c.args.piece.now (omega (arith, c.loop-heard-test.false)))
+pub returns-clause-heard : goal.returns-clause-heard
+returns-clause-heard c =
+    let heard = c.args.piece.now.heard.items in
+    let within = c.loop-place.invariant.within in
+    let all : c.loop-place.place ≡ length heard = omega (arith, within, c.loop-place-test.false, c.args.piece.now.heard.ok) in
+    c.loop-place.invariant.heard ∙ ap (λ n. hears (map (member_at heard) (range_with_len 0 n)) c.args.listener.now) all ∙ ap (λ members. hears members c.args.listener.now) (all_members heard)

@@ -23,43 +23,53 @@ loop-records-init g c =
       uncut = made.whole;
       range = made.range;
       end = made.end;
+      judged = made.judged;
+      known = c.requires.air;
       heard = ([], ap (λ (t : TapeRead). map bucket_in t.records) (sym c.new-records.ensures) ∙ made.members, sym (hears_none (listeners_in c.args.runs.now)));
     }
 
 pub hear_members-requires-after_bounds : goal.hear_members-requires-after_bounds
 hear_members-requires-after_bounds g c κs within =
     let i = c.loop-records.invariant in
-    subst (λ piece. All (CanHear piece) c.loop-records.runs) (sym c.deref.ensures.value)
-    (can_hear (tape_read c.args.tape.now).records i.heard.0 c.loop-records.piece.items (map bucket_in c.loop-records.records.records) c.args.runs.now c.loop-records.runs c.requires.counts i.heard.1 i.heard.2 i.range)
+    can_hear (tape_read c.args.tape.now).records i.heard.0 c.args.air.now c.loop-records.piece (map bucket_in c.loop-records.records.records) c.args.runs.now c.loop-records.runs c.requires.counts i.heard.1
+    i.heard.2 i.range i.judged i.known
 
 pub loop-records-smaller : goal.loop-records-smaller
 loop-records-smaller g c =
-    let some : 0 < c.loop-records.piece.len = some_in c.loop-records.piece.len (sym c.is_empty.ensures ∙ c.loop-records-test.true) in
-    let fewer = fewer_left c.in_ok-piece-2.piece.items c.loop-records.records.records c.next_piece-in-loop-records.new.records.records c.in_ok-piece-2.ensures.members in
-    omega (arith, some, fewer, c.loop-records.piece.ok.0)
+    let some : 0 < c.loop-records.piece.heard.len = some_in c.loop-records.piece.heard.len (sym c.is_empty.ensures ∙ c.loop-records-test.true) in
+    let fewer = fewer_left c.in_ok-piece-2.piece.heard.items c.loop-records.records.records c.next_piece-in-loop-records.new.records.records c.in_ok-piece-2.ensures.members in
+    omega (arith, some, fewer, c.loop-records.piece.heard.ok.0)
 
 pub loop-records-preserved : goal.loop-records-preserved
 loop-records-preserved g c =
     let i = c.loop-records.invariant in
     let made = c.in_ok-piece-2.ensures in
-    let members = map result_ok c.loop-records.piece.items in
+    let members = map result_ok c.loop-records.piece.heard.items in
     record {
       uncut = made.whole;
       range = made.range;
       end = made.end;
+      judged = made.judged;
+      known = c.hear_members.ensures.air c.args.air.now i.known;
       heard = (
         i.heard.0 ++ members,
-        next_is (map bucket_in (tape_read c.args.tape.now).records) i.heard.0 c.loop-records.piece.items c.in_ok-piece-2.piece.items c.loop-records.records.records
+        next_is (map bucket_in (tape_read c.args.tape.now).records) i.heard.0 c.loop-records.piece.heard.items c.in_ok-piece-2.piece.heard.items c.loop-records.records.records
             c.next_piece-in-loop-records.new.records.records i.heard.1 made.members,
-        c.in_ok-hear_members.ensures ∙ ap (λ piece. map (hears (map result_ok piece)) (listeners_in c.loop-records.runs)) c.deref.ensures.value ∙ ap (map (hears members)) i.heard.2
+        c.in_ok-hear_members.ensures.heard ∙ ap (map (hears members)) i.heard.2
             ∙ map_pieces i.heard.0 members (listeners_in c.args.runs.now),
       );
     }
 
-pub returns : goal.returns
-returns g c =
+pub returns-clause-heard : goal.returns-clause-heard
+returns-clause-heard g c =
     let i = c.loop-records.invariant in
-    let none : c.loop-records.piece.len ≡ 0 = eqb-true c.loop-records.piece.len 0 (sym c.is_empty.ensures ∙ c.loop-records-test.false) in
-    let empty : length c.loop-records.piece.items ≡ 0 = omega (arith, none, c.loop-records.piece.ok.0) in
+    let none : c.loop-records.piece.heard.len ≡ 0 = eqb-true c.loop-records.piece.heard.len 0 (sym c.is_empty.ensures ∙ c.loop-records-test.false) in
+    let empty : length c.loop-records.piece.heard.items ≡ 0 = omega (arith, none, c.loop-records.piece.heard.ok.0) in
     i.heard.2 ∙ ap (λ members. map (hears members) (listeners_in c.args.runs.now))
-    (all_read (map bucket_in (tape_read c.args.tape.now).records) i.heard.0 c.loop-records.piece.items c.loop-records.records.records i.heard.1 empty (i.end empty))
+    (all_read (map bucket_in (tape_read c.args.tape.now).records) i.heard.0 c.loop-records.piece.heard.items c.loop-records.records.records i.heard.1 empty (i.end empty))
+
+pub returns-in_err-hear_members-clause-air : goal.returns-in_err-hear_members-clause-air
+returns-in_err-hear_members-clause-air g c = c.hear_members.ensures.air c.args.air.now c.loop-records.invariant.known
+
+pub returns-in_err-piece-2-clause-air : goal.returns-in_err-piece-2-clause-air
+returns-in_err-piece-2-clause-air g c = c.hear_members.ensures.air c.args.air.now c.loop-records.invariant.known

@@ -16,15 +16,15 @@ loop-write-preserved c = λ i l.
     let old = c.loop-write.writes in
     let within : item < length old = omega (arith, c.requires.fits k d c.loop-write-test.true, c.loop-write.auto.writes) in
     let below : i < length old = omega (arith, length-set old item c.push.new.self) in
-    let added : ℕ → List ItemWrite = λ n. added_write c.args.cycle c.args.values.now (take n ws) i in
-    let new : ℕ → ItemWrite = λ j. record { cycle = c.args.cycle; value = get_or c.args.values.now j 0 } in
+    let added : ℕ → List ItemWrite = λ n. added_write c.args.place c.args.cycle c.args.values.now (take n ws) i in
+    let new : ℕ → ItemWrite = λ j. record { place = c.args.place; cycle = c.args.cycle; value = get_or c.args.values.now j 0 } in
     elim (cases_eq i item) as (λ _. get_or (set old item c.push.new.self) i [] ≡ get_or c.args.writes.now i [] ++ added (k + 1)) [
-      | inl same ↦ (let here = added_here c.args.cycle c.args.values.now ws k i d c.loop-write-test.true c.requires.apart same in
+      | inl same ↦ (let here = added_here c.args.place c.args.cycle c.args.values.now ws k i d c.loop-write-test.true c.requires.apart same in
           ap (λ j. get_or (set old item c.push.new.self) j []) same ∙ get_or-set_same old item c.push.new.self [] within ∙ c.in_ok-push.ensures
           ∙ ap (λ ws. ws ++ new item ∷ []) (get_or_default old item c.index-writes-item.result [] within)
           ∙ ap (λ j. get_or old j [] ++ new j ∷ []) (sym same)
           ∙ ap (λ xs. xs ++ new i ∷ []) (c.loop-write.invariant i below ∙ ap (λ w. get_or c.args.writes.now i [] ++ w) here.0 ∙ append-nil (get_or c.args.writes.now i []))
           ∙ ap (λ w. get_or c.args.writes.now i [] ++ w) (sym here.1))
       | inr other ↦ get_or-set_other old item i c.push.new.self [] other ∙ c.loop-write.invariant i below
-          ∙ ap (λ w. get_or c.args.writes.now i [] ++ w) (sym (added_other c.args.cycle c.args.values.now ws k i d c.loop-write-test.true other))
+          ∙ ap (λ w. get_or c.args.writes.now i [] ++ w) (sym (added_other c.args.place c.args.cycle c.args.values.now ws k i d c.loop-write-test.true other))
     ]

@@ -1,8 +1,8 @@
 use Rattle.std.proofs.Common.{refl, inl, inr, subst, sym, rules}
 use Rattle.std.specs.Io.KnownBytes.{IsAtEnd}
 use Rattle.air_base.specs.declared.limits.TheConstants.{MOST_TAPE_BYTES}
+use Rattle.chunk_program.specs.Plans.{AreShort}
 use Rattle.air_cli.specs.NamedDecks.{HasDeck}
-use Rattle.air_cli.specs.RunnableDecks.{HasShortPrograms}
 use Rattle.air_cli.specs.Private.BeforeDelivery.{IsUnmade}
 use Rattle.air_cli.specs.Tune.{TuneGives, tune_meaning}
 use Rattle.air_cli.proofs.ReadLemmas.{end_still}
@@ -28,7 +28,7 @@ returns-in_err-text-clause-unmade g c =
     let before = S.state c.args.shelf.now in
     let mid = S.state c.read_runnable_deck.new.shelf in
     let now = S.state c.tape_report.new.shelf in
-    let can : HasDeck c.args.name.now before HasShortPrograms = (c.in_ok-planned.planned, c.in_ok-planned.ensures.deck, c.in_ok-planned.ensures.made, c.in_ok-planned.ensures.runnable) in
+    let can : HasDeck c.args.name.now before AreShort = (c.in_ok-planned.planned, c.in_ok-planned.ensures.deck, c.in_ok-planned.ensures.made, c.in_ok-planned.ensures.runnable) in
     let unheard = unheard_since tape MOST_TAPE_BYTES before mid now c.in_err-text.field-0.0 (c.read_runnable_deck.ensures.reads.rest.files tape) c.in_ok-planned.ensures.reads.calm c.in_err-text.ensures.refused in
     let h : IsUnmade (tune_meaning c.args.name.now tape) before now c.in_err-text.field-0.0 = record {
       cause = unheard_tune c.args.name.now tape before now c.in_err-text.field-0.0 can unheard;

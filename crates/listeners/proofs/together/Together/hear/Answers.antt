@@ -17,4 +17,4 @@ returns g c =
     let now = c.hear_pieces.new.runs in
     let members = map bucket_in (tape_read c.args.tape.now).records in
     let long : length now ≡ runs.len = omega (arith, c.hear_pieces.auto.runs, c.deref_mut.ensures.len) in
-    ap listeners_in (with_items_is runs now long) ∙ c.in_ok-hear_pieces.ensures ∙ ap (map (hears members)) (ap listeners_in c.deref_mut.ensures.value ∙ c.self.view_is)
+    ap listeners_in (with_items_is runs now long) ∙ c.in_ok-hear_pieces.ensures.heard ∙ ap (map (hears members)) (ap listeners_in c.deref_mut.ensures.value ∙ c.self.view_is)

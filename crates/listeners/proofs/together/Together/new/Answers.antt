@@ -3,7 +3,9 @@ use Rattle.std.proofs.lemmas.List.{map-append}
 use Rattle.listeners.specs.declared.together.TogetherRun.{TogetherRun}
 use Rattle.listeners.specs.Listeners.{Listener, listener_of}
 use Rattle.listeners.specs.Private.TogetherSteps.{listeners_in}
+use Rattle.air_model.specs.Aired.{air_of}
 use Rattle.listeners.proofs.ReaderLemmas.{one_more_reader}
+use Rattle.listeners.proofs.TogetherLemmas.{all_know}
 use Rattle.listeners.proofs.together.Together.new.Goals as goal
 
 pub loop-r-preserved : goal.loop-r-preserved
@@ -12,3 +14,7 @@ loop-r-preserved c =
     let listener : TogetherRun → Listener = λ run. run.listener in
     one_more_reader (listener_of c.args.planned.now) c.loop-r.r (listeners_in c.loop-r.runs.items) (listeners_in c.push.new.self.items) c.in_ok-new.field-0 c.loop-r.invariant c.in_ok-new.ensures
     (ap listeners_in c.in_ok-push.ensures.items ∙ map-append listener c.loop-r.runs.items (run ∷ []))
+
+pub invariant_of-result : goal.invariant_of-result
+invariant_of-result c =
+    all_know c.args.planned.now c.in_ok-air.air c.loop-r.runs.items c.loop-r.r (c.in_ok-air.ensures.told ∙ ap air_of (c.of.ensures ∙ c.deck.ensures.told)) c.loop-r.invariant

@@ -13,6 +13,6 @@ returns c =
     let found = c.args.found.now in
     let rows = rows_text (map finding_row found) in
     let last : ℕ → List ℕ = λ n. row_text row_writer (codes "audited" ∷ map number_text (length found ∷ n ∷ [])) in
-    c.in_ok-text.ensures ∙ c.in_ok-wtr-2.ensures.text ∙ ap (λ n. written_text c.in_ok-wtr.wtr ++ last n) c.differing_count.ensures
-    ∙ ap (λ t. t ++ last (count_by differs found)) (c.in_ok-wtr.ensures.text ∙ ap (λ t. t ++ rows) (c.row_writer.ensures.text ∙ c.new.ensures.items))
+    c.in_ok-text.ensures ∙ c.in_ok-wtr.ensures.text ∙ ap (λ n. written_text c.put_findings.new.wtr ++ last n) c.differing_count.ensures
+    ∙ ap (λ t. t ++ last (count_by differs found)) (c.in_ok-put_findings.ensures.text ∙ ap (λ t. t ++ rows) (c.row_writer-wtr.ensures.text ∙ c.new.ensures.items))
     ∙ rows_push [] (map finding_row found) (audited_row found)

@@ -31,7 +31,7 @@ returns c =
     let V = values_in c.args.self.now.deck in
     let H = c.args.self.now.history in
     let i = c.args.item in
-    let d : ItemWrite = record { cycle = 0; value = 0 } in
+    let d : ItemWrite = record { place = 0; cycle = 0; value = 0 } in
     let n = c.writes_before-before.result in
     let some : 0 < count_at V H i c.args.cycle = omega (arith, c.writes_before-before.ensures, c.if-before-eq0.false) in
     sym (last_written V H i c.args.cycle d some

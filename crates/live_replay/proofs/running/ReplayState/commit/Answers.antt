@@ -21,7 +21,8 @@ pub add_writes-requires-clause-apart : goal.add_writes-requires-clause-apart
 add_writes-requires-clause-apart c = subst (λ ws. AllPairs (λ a b. a ≢ b) (map written_item ws)) (sym c.writes.ensures) ((repeats.rules c.args.update.now).0 c.shows_rules_kept.ensures).4
 
 pub returns : goal.returns
-returns c = λ V H n r l at.
+returns c = λ V H r l at.
+    let n = c.args.place in
     let old = c.args.self.now in
     let update = c.args.update.now in
     let values : (with_items old.values c.run_event.new.values).items ≡ c.run_event.new.values = with_items_is old.values c.run_event.new.values (search rules) in
@@ -34,6 +35,6 @@ returns c = λ V H n r l at.
     refl
     (ap length writes ∙ c.add_writes.auto.writes ∙ ap length c.deref_mut-2.ensures.value)
     (λ i li. ap (λ ws. get_or ws i []) writes ∙ c.in_ok-add_writes.ensures i (subst (λ ws. i < length ws) (sym c.deref_mut-2.ensures.value) li)
-    ∙ ap (λ ws. get_or ws i [] ++ added_write old.starts c.deref.result.now c.writes.result.now i) c.deref_mut-2.ensures.value
-    ∙ ap (λ vs. get_or old.writes.items i [] ++ added_write old.starts vs c.writes.result.now i) c.deref.ensures.value
-    ∙ ap (λ us. get_or old.writes.items i [] ++ added_write old.starts (with_items old.values c.run_event.new.values).items us i) c.writes.ensures)
+    ∙ ap (λ ws. get_or ws i [] ++ added_write n old.starts c.deref.result.now c.writes.result.now i) c.deref_mut-2.ensures.value
+    ∙ ap (λ vs. get_or old.writes.items i [] ++ added_write n old.starts vs c.writes.result.now i) c.deref.ensures.value
+    ∙ ap (λ us. get_or old.writes.items i [] ++ added_write n old.starts (with_items old.values c.run_event.new.values).items us i) c.writes.ensures)

@@ -1,0 +1,51 @@
+//! The items that a backward pass looks for: those that a commit reads whose writer it hasn't met yet.
+
+ghost use Rattle.std.specs.Prelude.{◌≡◌, ◌==◌, ◌<◌, ℕ, false, not, ◌&&◌, ◌||◌, All, IfOk, length, get_or};
+ghost use Rattle.std.specs.List.{list_any};
+
+use air_base::NoMemory;
+use air_history::Write;
+use std::alloc::Global;
+
+/// Room for this many items, none of which is looked for.
+pub fn none_sought(alloc: Global, count: usize) -> Result<Vec<bool>, NoMemory>
+    ensures sized { IfOk result (λ sought. length sought.items ≡ count) }
+    ensures clear { IfOk result (λ sought. (i : ℕ) → get_or sought.items i false ≡ false) }
+{
+    Ok(vec![in alloc; false; count]?)
+}
+
+/// Whether a write is of an item that is looked for.
+pub fn writes_sought(writes: &[Write], sought: &[bool]) -> bool
+    requires { All (λ w. w.item < length sought.now) writes.now }
+    ensures { result ≡ list_any (λ w. get_or sought.now w.item false) writes.now }
+{
+    for write in writes {
+        if sought[write.item as usize] {
+            return true;
+        }
+    }
+    false
+}
+
+/// Looks for the items that are written no longer.
+pub fn forget_written(writes: &[Write], sought: &mut [bool])
+    requires { All (λ w. w.item < length sought.old) writes.now }
+    ensures { (i : ℕ) → get_or sought.new i false ≡
+        (get_or sought.old i false && not (list_any (λ w. w.item == i) writes.now)) }
+{
+    for write in writes {
+        sought[write.item as usize] = false;
+    }
+}
+
+/// Looks for the items that are read, too.
+pub fn seek_read(reads: &[u16], sought: &mut [bool])
+    requires { All (λ r. r < length sought.old) reads.now }
+    ensures { (i : ℕ) → get_or sought.new i false ≡
+        (get_or sought.old i false || list_any (λ r. r == i) reads.now) }
+{
+    for item in reads {
+        sought[*item as usize] = true;
+    }
+}
