@@ -90,7 +90,7 @@ test_from_whole bytes w =
 
 -- ---- a spelling read back
 
-length_numbers : (es : List ℕ) → length (flat_map (big_bytes 4) es) ≡ 4 * length es
+pub length_numbers : (es : List ℕ) → length (flat_map (big_bytes 4) es) ≡ 4 * length es
 length_numbers [] = refl
 length_numbers (e ∷ es) =
     length-append (big_bytes 4 e) (flat_map (big_bytes 4) es) ∙ ap (λ n. n + length (flat_map (big_bytes 4) es)) (length-bytes_high_first 4 e) ∙ (let rest = length_numbers es in omega arith)

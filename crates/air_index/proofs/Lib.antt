@@ -4,5 +4,20 @@ pub mod RecordLemmas
 pub mod SearchLemmas
 pub mod LawLemmas
 pub mod SizeLemmas
+pub mod PositionLemmas
+pub mod MarkLemmas
+pub mod BeamLemmas
+pub mod PieceLemmas
+pub mod AheadLemmas
+pub mod BackLemmas
+pub mod EntryLemmas
+pub mod LengthLemmas
+pub mod WriteLemmas
+pub mod DataLemmas
+pub mod TapeLemmas
+pub mod CycleLemmas
+pub mod TapeSizeLemmas
+pub mod BoundLemmas
+pub mod NearLemmas
 pub mod OnAirExamples
 mod SeekExamples

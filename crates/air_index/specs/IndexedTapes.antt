@@ -1,12 +1,13 @@
 -- The indexed tape: the buckets of a tape as data records, with an index record before those of each minor cycle.
-use Rattle.std.specs.Prelude.{ℕ, zero, suc, ◌+◌, ◌*◌, List, [], ◌∷◌, ◌++◌, Option, Some, None, drop, get_or, length, map, sum_by}
+use Rattle.std.specs.Prelude.{◌≡◌, ℕ, zero, suc, ◌+◌, ◌*◌, List, [], ◌∷◌, ◌++◌, Option, Some, None, All, drop, get_or, length, map, sum_by}
 use Rattle.std.specs.List.{range_with_len}
 use Rattle.air_model.specs.Aired.{air_of, buckets_of}
-use Rattle.air_model.specs.Buckets.{entry_len, spelling}
+use Rattle.air_model.specs.Buckets.{Bucket, bucket_in, entry_len, spelling}
 use Rattle.air_model.specs.Decks.{Deck, script_history, values_in}
+use Rattle.air_model.specs.Programs.{num_minors}
 use Rattle.air_model.specs.Tapes.{tape_of}
 use Rattle.air_history.specs.Histories.{starts}
-use Rattle.chunk_program.specs.Editions.{Plans, planned_slots, plans_in}
+use Rattle.chunk_program.specs.Editions.{Plans, no_disks, planned_edition, planned_slots, plans_in}
 use Rattle.air_index.specs.Indexes.{index_bytes}
 use Rattle.air_index.specs.OnAir.{Mark, IsIndex, IsSlot, entry_for, marks_at, wait_for}
 use Rattle.air_index.specs.Records.{data_bytes}
@@ -21,19 +22,35 @@ records_at_marks plans n c q [] buckets = []
 records_at_marks plans n c q (IsIndex m ∷ marks) buckets = index_bytes c m (entries_for plans n c q) ∷ records_at_marks plans n c (q + 1) marks buckets
 records_at_marks plans n c q (IsSlot o ∷ marks) buckets = data_bytes (wait_for plans c q) (get_or buckets 0 []) ∷ records_at_marks plans n c (q + 1) marks (drop 1 buckets)
 
--- The records of so many cycles from cycle c on, with the bytes of their buckets in order.
+-- The records of this number of cycles from cycle c on, with the bytes of their buckets in order.
 unfoldable pub records_from : Plans → ℕ → ℕ → ℕ → List (List ℕ) → List (List ℕ)
 records_from plans n c zero buckets = []
 records_from plans n c (suc more) buckets =
     records_at_marks plans n c 0 (marks_at plans c) buckets ++ records_from plans n (c + 1) more (drop (length (planned_slots plans c)) buckets)
 
--- The records of the indexed tape of the first so many cycles.
+-- The records of the indexed tape of the first cycles.
 abbrev pub indexed_records : Plans → ℕ → ℕ → List (List ℕ) → List (List ℕ)
 indexed_records plans n cycles buckets = records_from plans n 1 cycles buckets
+
+-- The indexed tape of this number of cycles after the first ones.
+abbrev pub indexed_piece : Plans → ℕ → ℕ → ℕ → List (List ℕ) → List ℕ
+indexed_piece plans n first cycles buckets = tape_of (records_from plans n (first + 1) cycles buckets)
 
 -- The indexed tape.
 abbrev pub indexed_tape : Plans → ℕ → ℕ → List (List ℕ) → List ℕ
 indexed_tape plans n cycles buckets = tape_of (indexed_records plans n cycles buckets)
+
+-- The number of slots of the cycles after the first ones.
+abbrev pub slots_after : Plans → ℕ → ℕ → ℕ
+slots_after plans first cycles = sum_by (λ c. length (planned_slots plans c)) (range_with_len (first + 1) cycles)
+
+-- The number of minor cycles of the cycles after the first ones.
+abbrev pub minors_after : Plans → ℕ → ℕ → ℕ
+minors_after plans first cycles = sum_by (λ c. num_minors (get_or plans.programs (planned_edition plans c) no_disks).disks) (range_with_len (first + 1) cycles)
+
+-- Each of these is a bucket of the grammar.
+abbrev pub AreBuckets : List (List ℕ) → Type 0
+AreBuckets records = All (λ r. (b : Bucket) × (bucket_in r ≡ Some b)) records
 
 -- The bytes of a slot's data record on a tape, in a version with n items: of its length, its own head and its bucket's, and of the entries where it
 -- has an item.
@@ -50,7 +67,7 @@ mark_size version n (IsSlot o) = slot_size version n o
 abbrev pub marks_size : ℕ → ℕ → List Mark → ℕ
 marks_size version n marks = sum_by (mark_size version n) marks
 
--- The length of the indexed tape of the first so many cycles.
+-- The length of the indexed tape of the first cycles.
 abbrev pub indexed_size : ℕ → ℕ → Plans → ℕ → ℕ
 indexed_size version n plans cycles = sum_by (λ c. marks_size version n (marks_at plans c)) (range_with_len 1 cycles)
 

@@ -5,3 +5,5 @@ pub mod IndexedTapes
 pub mod Seeks
 pub mod Searches
 pub mod SeekLaws
+pub mod BeamLaws
+pub mod Private

@@ -15,7 +15,7 @@ has_item i (Idle count) = false
 has_item i (Column item value entries) = item == i
 has_item i (Vector item value entries) = item == i
 
--- The record at place q is opened as one of so many, and has to be a data record of the item.
+-- The record at place q, the last of those opened, has to be a data record of the item.
 unfoldable pub item_told : ℕ → ℕ → ℕ → Option Indexed → Sought
 item_told i opens q (Some (Payload wait b)) = if has_item i b.body then Found opens q b.cycle (value_of b.body) else Lost opens
 item_told i opens q (Some (Index index)) = Lost opens
@@ -26,8 +26,8 @@ unfoldable pub sought_item : ℕ → ℕ → ℕ → List (List ℕ) → Sought
 sought_item i opens q [] = Lost opens
 sought_item i opens q (r ∷ rest) = item_told i (opens + 1) q (indexed_at r)
 
--- The record at place q, the first of these, was opened as one of so many, and has to be an index record: the item has to have an entry in it,
--- which leads on.
+-- The record at place q, the first of these and the last of those opened, has to be an index record. The item has to have an entry in it, which
+-- leads on.
 unfoldable pub index_told : ℕ → ℕ → ℕ → List (List ℕ) → Option Indexed → Sought
 index_told i opens q records (Some (Index index)) = option_map_or (λ e. sought_item i opens (q + e) (drop e records)) (slice_get index.entries i) (Lost opens)
 index_told i opens q records (Some (Payload wait b)) = Lost opens

@@ -1,10 +1,12 @@
 //! Index on air: tapes on which a receiver without a deck finds an item.
 //!
-//! Each minor cycle of an indexed tape begins with an index record, which tells of each item how many records on its next data
-//! record is. `reading` reads the records of such a tape, `seeker` finds an item on one, and `sizes`
-//! tells how long one is, before it is written. `laws` are of seeks.
+//! Each minor cycle of an indexed tape begins with an index record. It tells for each item how many records on the item's next data record
+//! is. `sizes` tells how long such a tape is, `beams` writes one, `reading` reads its records, and `seeker` finds an item on one. `laws` are
+//! of what is written and of what is found.
 #![tactic(auto)]
 
+pub mod beams;
+mod entries;
 pub mod index_view;
 pub mod laws;
 mod places;
@@ -15,7 +17,9 @@ pub mod seeker;
 pub mod sizes;
 pub mod sought;
 mod steps;
+mod writing;
 
+pub use beams::{beam_piece, beam_tape};
 pub use index_view::IndexView;
 pub use reading::indexed;
 pub use records::Indexed;

@@ -25,7 +25,7 @@ fn payload_in<'a>(bytes: &'a [u8]) -> Option<Indexed<'a>>
     }
 }
 
-/// The record that bytes spell; none where they are no record of an indexed tape.
+/// The record that bytes spell; nothing if they are no record of an indexed tape.
 pub fn indexed<'a>(bytes: &'a [u8]) -> Option<Indexed<'a>>
     ensures read { result ≡ indexed_at bytes.now }
     ensures grammar { MatchOption result (IsNoRecord bytes.now) (λ r. IsRecord bytes.now r) }

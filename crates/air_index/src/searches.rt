@@ -9,7 +9,7 @@ pub(crate) enum Wanted {
     First,
     /// An index record, to which the first record leads.
     Index,
-    /// A data record of the item, to which an index leads; so many records were opened before it.
+    /// A data record of the item, to which an index leads; `opens` records were opened before it.
     Item { opens: u32 },
     /// None: the search has its answer.
     Nothing { answer: Sought },

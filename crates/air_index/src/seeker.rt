@@ -1,7 +1,7 @@
 //! Finding an item on an indexed tape.
 //!
-//! What a seeker tells depends on the records that follow alone (`seeker_tells`). All that it opens lies ahead, so it hears each record
-//! once and keeps none.
+//! What a seeker tells depends only on the records that follow (`seeker_tells`). All that it opens is ahead, so it hears each record once
+//! and keeps none.
 
 ghost use Rattle.std.specs.Prelude.{◌≡◌, ◌<◌, ℕ, List, [], ◌∷◌, None, IfErr, IfOk, OnOk};
 ghost use Rattle.air_model.specs.Tapes.{tape_read};

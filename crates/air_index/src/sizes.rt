@@ -17,7 +17,7 @@ use chunk_program::{Plans, Program};
 /// The bytes of a data record on a tape, before the entries of its bucket.
 const RECORD_HEAD: u64 = (LENGTH_BYTES + DATA_HEAD + HEAD_BYTES) as u64;
 
-/// The length of the data records of one cycle.
+/// The length in bytes of the data records of one cycle.
 fn data_len(program: &Program, n: u16, version: u8) -> u64
     requires { length (all_items program.now.disks) ≡ n }
     ensures len { result ≡ sum_by (slot_size version n) (slots_of program.now.disks) }
@@ -35,7 +35,7 @@ fn data_len(program: &Program, n: u16, version: u8) -> u64
     len
 }
 
-/// The length of all records of one cycle of a program with n items, in this version.
+/// The length in bytes of all records of one cycle of a program with n items, in this version.
 pub fn beamed_len(program: &Program, n: u16, version: u8) -> u64
     requires { length (all_items program.now.disks) ≡ n }
     ensures len { result ≡ marks_size version n (marks_of program.now.disks) }
@@ -48,7 +48,7 @@ pub fn beamed_len(program: &Program, n: u16, version: u8) -> u64
     u64::from(program.minors()) * index + data
 }
 
-/// The exact length of the indexed tape of the first so many cycles in this form, where each edition has n items.
+/// The exact length in bytes of the indexed tape of the first `cycles` cycles in this form, where each edition has n items.
 pub fn beam_bytes(plans: &Plans, n: u16, cycles: u32, form: Form) -> u64
     requires items { HaveItems n plans.now.programs }
     requires version { (form.version ≡ 1) ⊎ (form.version ≡ 2) }

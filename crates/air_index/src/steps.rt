@@ -28,7 +28,7 @@ fn ended(answer: Sought) -> Search
     }
 }
 
-/// A search that waits for a record so many records on.
+/// A search that waits for the record `wait` records on.
 fn ahead(wanted: Wanted, place: u64, wait: u32) -> Search
     requires some { 1 ≤ wait }
     requires fits { place + wait < 2 ^ 64 }
@@ -53,7 +53,7 @@ fn has_item(bucket: &BucketView<'_>, item: u16) -> bool
     }
 }
 
-/// What is told where the item is found.
+/// The answer if the item is found.
 fn found(bucket: &BucketView<'_>, place: u64, opens: u32) -> Sought
     ensures { result ≡ Found opens place bucket.now.cycle (value_of bucket.now.body) }
 {
@@ -65,7 +65,7 @@ fn found(bucket: &BucketView<'_>, place: u64, opens: u32) -> Sought
     }
 }
 
-/// What the record tells to which an index leads.
+/// The answer from the record to which an index leads.
 fn item_opened(item: u16, place: u64, opens: u32, bytes: &[u8]) -> Sought
     ensures { result ≡ item_told item opens place (indexed_at bytes.now) }
 {
@@ -82,7 +82,7 @@ fn item_opened(item: u16, place: u64, opens: u32, bytes: &[u8]) -> Sought
     }
 }
 
-/// How the search goes on from an index.
+/// The search after an index.
 fn index_followed(item: u16, place: u64, opens: u32, index: &IndexView<'_>) -> Search
     requires place { place < 2 ^ 33 }
     requires opens { opens ≤ 2 }
@@ -95,7 +95,7 @@ fn index_followed(item: u16, place: u64, opens: u32, index: &IndexView<'_>) -> S
     ahead(Wanted::Item { opens }, place, index.entry(item))
 }
 
-/// How the search goes on from the record to which the first record leads.
+/// The search after the record to which the first record leads.
 fn index_opened(item: u16, place: u64, bytes: &[u8]) -> Search
     requires { place < 2 ^ 33 }
     ensures told { (records : List (List ℕ)) → told_after item result records ≡ index_told item 2 place (bytes.now ∷ records) (indexed_at bytes.now) }
@@ -108,7 +108,7 @@ fn index_opened(item: u16, place: u64, bytes: &[u8]) -> Search
     }
 }
 
-/// How the search goes on from a data record that is opened first.
+/// The search after a data record that is opened first.
 fn data_followed(item: u16, place: u64, wait: u32, bucket: &BucketView<'_>) -> Search
     requires some { 1 ≤ wait }
     requires place { place < 2 ^ 32 }
@@ -122,7 +122,7 @@ fn data_followed(item: u16, place: u64, wait: u32, bucket: &BucketView<'_>) -> S
     }
 }
 
-/// How the search goes on from the record that is opened first.
+/// The search after the record that is opened first.
 fn first_opened(item: u16, place: u64, bytes: &[u8]) -> Search
     requires { place < 2 ^ 32 }
     ensures told { (records : List (List ℕ)) → told_after item result records ≡ first_told item place (bytes.now ∷ records) (indexed_at bytes.now) }

@@ -1,1 +1,2 @@
 pub mod PinLemmas
+pub mod BeamPins

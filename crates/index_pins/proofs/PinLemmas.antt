@@ -1,12 +1,11 @@
 -- What the pins' values compute to.
-use Rattle.std.proofs.Common.{◌≡◌, ◌∙◌, ◌++◌, ℕ, List, [], ◌∷◌, Option, None, Result, Ok, Err, ap, refl}
+use Rattle.std.proofs.Common.{◌≡◌, ◌∙◌, ◌++◌, ℕ, List, [], ◌∷◌, None, Result, Ok, Err, ap, refl}
 use Rattle.std.specs.Prelude.{IfOk}
 use Rattle.air_model.specs.Buckets.{body_at, bucket_at, count_of, entries_at, entries_of, entry_bytes, entry_count, entry_told, is_entry, is_placed, is_shaped, item_of, kind_of, raw_entries, reading, spelling, value_of}
 use Rattle.bucket_codec.specs.declared.tape.TapeFault.{TapeFault}
 use Rattle.air_index.specs.Indexes.{index_at, index_bytes, index_entries, is_index}
 use Rattle.air_index.specs.Records.{data_bytes, indexed_at, is_data, payload_at}
 use Rattle.air_index.specs.Seeks.{first_told, has_item, index_told, item_told, sought, sought_first, sought_index, sought_item}
-use Rattle.air_index.specs.declared.records.Indexed.{Indexed}
 use Rattle.air_index.specs.declared.sought.Sought.{Sought}
 use Rattle.air_index.specs.declared.sought.Sought.TheVariants.{Found, Lost}
 use Rattle.index_pins.specs.ShortTapes.{first_item, no_index, two_cycles, wrong_entry}

@@ -1,1 +1,2 @@
 pub mod ShortTapes
+pub mod ShortPlans

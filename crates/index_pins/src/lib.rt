@@ -3,5 +3,6 @@
 //! function's contract alone. A function is named for the blunder that it refuses, and its comment says what holds.
 #![tactic(auto)]
 
+pub mod beams;
 pub mod records;
 pub mod seeks;

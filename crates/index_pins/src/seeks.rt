@@ -24,7 +24,7 @@ pub fn own_record_passed_over(tape: &[u8]) -> Result<Sought, TapeFault>
     seek(tape, 0, 4)
 }
 
-/// A record behind the end isn't there, so it isn't opened.
+/// A record after the end isn't there, so it isn't opened.
 pub fn record_behind_the_end_counted(tape: &[u8]) -> Result<Sought, TapeFault>
     requires { (tape_read tape.now).records ≡ two_cycles }
     ensures { IfOk result (λ answer. answer ≡ Lost 1) }

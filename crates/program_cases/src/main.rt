@@ -1,13 +1,15 @@
-//! Plays cases of decks' cuts and programs, of the cycles that are aired from a deck's board, and of the mast that gathers a tape.
+//! Plays cases of decks' cuts and programs, of the cycles that are aired from a deck's board, of the mast that gathers a tape, and of indexed tapes.
 //!
 //! `items` and `disks` spell the text of a deck, `repeat` continues the items, and each question after them reads it again. `slots`, `plan`, `cut`
 //! and `wait` ask for the program of the edition that `edition` names, `in-force` for the edition of a cycle, `length`, `air` and `memory` for what
 //! is aired. The board is that of the deck's script and one more start. `mast` makes the mast of a room, which `air`, `aim`, `send`, `finish`, `tape`
-//! and `clear` are about.
+//! and `clear` are about. `index` puts the cycle that the mast has at the end of an indexed tape that is kept, `seek` seeks on that tape, and `keep`
+//! makes it anew from the bytes that it spells. `indexed-length` asks how long such a tape is.
 #![tactic(auto)]
 
 mod airing;
 mod boards;
+mod indexes;
 mod plans;
 mod tapes;
 
@@ -20,13 +22,14 @@ use item_catalog::read_deck;
 use std::alloc::Global;
 use std::io;
 
-/// The deck's text in two parts, the edition that is asked about, and the mast that gathers a tape.
+/// The deck's text in two parts, the edition that is asked about, the mast that gathers a tape, and the indexed tape that is kept.
 #[derive(Drop)]
 struct ProgramPlayer {
     items: Vec<u8>,
     disks: Vec<u8>,
     edition: u32,
     mast: TapeMast,
+    kept: Vec<u8>,
 }
 
 impl ProgramPlayer {
@@ -56,6 +59,10 @@ impl ProgramPlayer {
                 plans::tell_edition(alloc, &planned, self.edition, word, parts, came)
             }
             b"in-force" => plans::tell_in_force(&planned, parts, came),
+            b"index" => {
+                indexes::tell_index(&planned, parts, self.mast.tape(), &mut self.kept, came)
+            }
+            b"indexed-length" => indexes::tell_indexed_length(&planned, parts, came),
             _ => match boards::started_board(alloc, planned.deck())? {
                 Some(board) if planned.deck().items() == board.n() => {
                     airing::tell_aired(alloc, &planned, &board, word, parts, &mut self.mast, came)
@@ -89,7 +96,11 @@ impl Player for ProgramPlayer {
             b"slots" | b"plan" | b"cut" | b"wait" | b"in-force" => {
                 self.ask(alloc, word, parts, came)?;
             }
-            b"length" | b"air" | b"memory" => self.ask(alloc, word, parts, came)?,
+            b"length" | b"air" | b"memory" | b"index" | b"indexed-length" => {
+                self.ask(alloc, word, parts, came)?;
+            }
+            b"keep" => self.kept = parts.bytes(alloc)?,
+            b"seek" => indexes::tell_seek(parts, &self.kept, came)?,
             _ => parts.refuse(BadCase::NoSuchWord),
         }
         Ok(())
@@ -105,6 +116,7 @@ fn main(rt: HostRuntime) -> io::Result<()> {
         disks: Vec::new(rt.alloc()),
         edition: 0,
         mast,
+        kept: Vec::new(rt.alloc()),
     };
     play_stdin(&rt, &mut player)
 }

@@ -1,0 +1,2 @@
+-- Definitions of private steps alone: no public contract cites them.
+pub mod Beaming

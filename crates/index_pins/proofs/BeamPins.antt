@@ -1,0 +1,82 @@
+-- What the pins of `beam_tape` are handed may be handed to it, and what its definition computes to.
+use Rattle.std.proofs.Common.{◌≡◌, ◌++◌, ℕ, List, [], ◌∷◌, Some, Result, Ok, Err, length, refl, ◌∙◌, ap}
+use Rattle.std.specs.Prelude.{OnOk}
+use Rattle.std.proofs.lemmas.List.Elements.{All-cons, All-nil}
+use Rattle.air_model.specs.Buckets.{Bucket, body_at, bucket_at, bucket_in, count_of, entries_at, entries_of, entry_bytes, entry_count, entry_told, is_entry, is_placed, is_shaped, item_of, kind_of, raw_entries, reading, spelling, value_of}
+use Rattle.air_model.specs.Disks.{all_items}
+use Rattle.air_model.specs.Programs.{chunk, chunk_len, least_common_multiple, minor_cycle, num_chunks, num_minors, program}
+use Rattle.air_model.specs.Tapes.{TapeRead, tape_of}
+use Rattle.chunk_program.specs.Editions.{EditionDisks, HaveItems, Plans}
+use Rattle.air_index.specs.Indexes.{index_bytes}
+use Rattle.air_index.specs.IndexedTapes.{AreBuckets, entries_for, indexed_piece, records_at_marks, records_from, slots_after}
+use Rattle.air_index.specs.OnAir.{ahead, entry_for, marks_index, marks_item, marks_of, wait_for}
+use Rattle.air_index.specs.Records.{data_bytes}
+use Rattle.index_pins.specs.ShortPlans.{four_slots, two_disks, two_editions, two_items, two_slots}
+use Rattle.index_pins.specs.ShortTapes.{first_item, second_item}
+
+-- ---- the conditions
+
+bucket_read : (bytes : List ℕ) (b : Bucket) → bucket_in bytes ≡ Some b → (b : Bucket) × (bucket_in bytes ≡ Some b)
+bucket_read bytes b e = (b, e)
+
+two_buckets : ((b : Bucket) × (bucket_in (first_item 1) ≡ Some b)) × ((b : Bucket) × (bucket_in (second_item 1) ≡ Some b))
+unfolding entry_bytes kind_of count_of item_of value_of entries_of spelling bucket_at reading is_shaped is_placed is_entry raw_entries entry_count entries_at entry_told body_at
+two_buckets = (bucket_read (first_item 1) _ refl, bucket_read (second_item 1) _ refl)
+
+abbrev IsRead : List ℕ → Type 0
+IsRead r = (b : Bucket) × (bucket_in r ≡ Some b)
+
+pub two_read : AreBuckets two_slots
+two_read = All-cons IsRead (first_item 1) (second_item 1 ∷ []) two_buckets.0 (All-cons IsRead (second_item 1) [] two_buckets.1 (All-nil IsRead))
+
+pub four_read : AreBuckets four_slots
+four_read =
+    All-cons IsRead (first_item 1) (second_item 1 ∷ first_item 1 ∷ second_item 1 ∷ []) two_buckets.0
+    (All-cons IsRead (second_item 1) (first_item 1 ∷ second_item 1 ∷ []) two_buckets.1 two_read)
+
+abbrev Has : ℕ → EditionDisks → Type 0
+Has n p = length (all_items p.disks) ≡ n
+
+pub two_held : HaveItems 2 two_items.programs
+unfolding all_items
+two_held = All-cons (Has 2) _ [] refl (All-nil (Has 2))
+
+pub two_on_disks : HaveItems 2 two_disks.programs
+unfolding all_items
+two_on_disks = All-cons (Has 2) _ [] refl (All-nil (Has 2))
+
+pub three_held : HaveItems 3 two_editions.programs
+unfolding all_items
+three_held = All-cons (Has 3) _ (_ ∷ []) refl (All-cons (Has 3) _ [] refl (All-nil (Has 3)))
+
+pub slots_are : (slots_after two_items 0 1 ≡ 2) × (slots_after two_disks 0 1 ≡ 4) × (slots_after two_disks 3 1 ≡ 4) × (slots_after two_editions 0 1 ≡ 4)
+unfolding chunk chunk_len least_common_multiple minor_cycle num_chunks num_minors program
+slots_are = (refl, refl, refl, refl)
+
+-- ---- what is written
+
+pub two_written : indexed_piece two_items 2 0 1 two_slots ≡ tape_of (index_bytes 1 0 (1 ∷ 2 ∷ []) ∷ data_bytes 2 (first_item 1) ∷ data_bytes 1 (second_item 1) ∷ [])
+unfolding chunk chunk_len least_common_multiple minor_cycle num_chunks num_minors marks_of ahead marks_index marks_item entry_for wait_for entries_for records_at_marks records_from
+two_written = refl
+
+pub disks_written : indexed_piece two_disks 2 0 1 four_slots
+    ≡ tape_of (index_bytes 1 0 (1 ∷ 2 ∷ []) ∷ data_bytes 2 (first_item 1) ∷ data_bytes 1 (second_item 1) ∷ index_bytes 1 1 (1 ∷ 5 ∷ []) ∷ data_bytes 2 (first_item 1) ∷ data_bytes 1 (second_item 1) ∷ [])
+unfolding chunk chunk_len least_common_multiple minor_cycle num_chunks num_minors marks_of ahead marks_index marks_item entry_for wait_for entries_for records_at_marks records_from
+disks_written = refl
+
+pub later_written : indexed_piece two_disks 2 3 1 four_slots
+    ≡ tape_of (index_bytes 4 0 (1 ∷ 2 ∷ []) ∷ data_bytes 2 (first_item 1) ∷ data_bytes 1 (second_item 1) ∷ index_bytes 4 1 (1 ∷ 5 ∷ []) ∷ data_bytes 2 (first_item 1) ∷ data_bytes 1 (second_item 1) ∷ [])
+unfolding chunk chunk_len least_common_multiple minor_cycle num_chunks num_minors marks_of ahead marks_index marks_item entry_for wait_for entries_for records_at_marks records_from
+later_written = refl
+
+pub editions_written : indexed_piece two_editions 3 0 1 four_slots
+    ≡ tape_of (index_bytes 1 0 (1 ∷ 2 ∷ 5 ∷ []) ∷ data_bytes 2 (first_item 1) ∷ data_bytes 1 (second_item 1) ∷ index_bytes 1 1 (1 ∷ 7 ∷ 2 ∷ []) ∷ data_bytes 2 (first_item 1) ∷ data_bytes 1 (second_item 1) ∷ [])
+unfolding chunk chunk_len least_common_multiple minor_cycle num_chunks num_minors marks_of ahead marks_index marks_item entry_for wait_for entries_for records_at_marks records_from
+editions_written = refl
+
+-- What is written where the plans and the tape are these.
+pub written_is : {A F : Type 0} (r : Result A F) (old new tape : List ℕ) (plans known : Plans) (read is : TapeRead) (n first cycles : ℕ)
+    → OnOk r (new ≡ old ++ indexed_piece plans n first cycles read.records) → plans ≡ known → read ≡ is → indexed_piece known n first cycles is.records ≡ tape → OnOk r (new ≡ old ++ tape)
+written_is (Ok a) old new tape plans known read is n first cycles h same told computes =
+    h ∙ ap (λ (p : Plans). old ++ indexed_piece p n first cycles read.records) same ∙ ap (λ (t : TapeRead). old ++ indexed_piece known n first cycles t.records) told ∙ ap (λ l. old ++ l) computes
+written_is (Err e) old new tape plans known read is n first cycles h same told computes = h
