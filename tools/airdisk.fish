@@ -4,6 +4,7 @@ complete -c airdisk -n 'test (count (commandline -opc)) -eq 1' -a 'plan' -d 'pri
 complete -c airdisk -n 'test (count (commandline -opc)) -eq 1' -a 'split' -d 'print the disk sizes of least expected wait, beside the deck\'s own'
 complete -c airdisk -n 'test (count (commandline -opc)) -eq 1' -a 'script' -d 'run the script of a deck, and print the report of its readers'
 complete -c airdisk -n 'test (count (commandline -opc)) -eq 1' -a 'tune' -d 'let the readers of a deck hear a tape, and print their report'
+complete -c airdisk -n 'test (count (commandline -opc)) -eq 1' -a 'seek' -d 'find an item on an indexed tape from a record on, and print where it is'
 complete -c airdisk -n 'test (count (commandline -opc)) -eq 1' -a 'drill' -d 'make a deck of size 1 to 100, run its script, and print what came of it'
 complete -c airdisk -n 'test (count (commandline -opc)) -eq 1' -a 'audit' -d 'replay a report by its own history, and print which of its lines agree'
 complete -c airdisk -n 'test (count (commandline -opc)) -eq 1' -a 'run' -d 'run a deck on threads, print the report, and write the tape'
@@ -25,6 +26,7 @@ complete -c airdisk -n 'test (count (commandline -opc)) -eq 2; and contains -- (
 complete -c airdisk -n 'test (count (commandline -opc)) -eq 2; and contains -- (commandline -opc)[2] listen' -kxa '(__fish_complete_suffix .csv)'
 complete -c airdisk -n 'test (count (commandline -opc)) -eq 3; and contains -- (commandline -opc)[2] script' -kxa '(__fish_complete_suffix .tape)'
 complete -c airdisk -n 'test (count (commandline -opc)) -eq 3; and contains -- (commandline -opc)[2] tune' -kxa '(__fish_complete_suffix .tape)'
+complete -c airdisk -n 'test (count (commandline -opc)) -eq 2; and contains -- (commandline -opc)[2] seek' -kxa '(__fish_complete_suffix .tape)'
 complete -c airdisk -n 'test (count (commandline -opc)) -eq 3; and contains -- (commandline -opc)[2] run' -kxa '(__fish_complete_suffix .tape)'
 complete -c airdisk -n 'test (count (commandline -opc)) -eq 3; and contains -- (commandline -opc)[2] audit' -F
-complete -c airdisk -n 'test (count (commandline -opc)) -eq 2; and contains -- (commandline -opc)[2] help' -xa 'plan split script tune drill audit run cast listen help'
+complete -c airdisk -n 'test (count (commandline -opc)) -eq 2; and contains -- (commandline -opc)[2] help' -xa 'plan split script tune seek drill audit run cast listen help'

@@ -14,7 +14,7 @@ use Rattle.air_cli.specs.ReportsAndTapes.{ReportAndTape, given_status}
 use Rattle.air_cli.specs.Drill.{DrillGives}
 use Rattle.air_cli.specs.Meanings.{Meaning, no_command}
 use Rattle.air_cli.specs.OnAir.{words_meaning}
-use Rattle.air_cli.specs.Words.{AsksDrill, asked_drill, asked_of, asked_of_one}
+use Rattle.air_cli.specs.Words.{AsksDrill, asked_drill, asked_of, asked_of_one, asked_of_three}
 
 -- The status is one of these.
 abbrev IsAmong : Status → Type 0
@@ -70,7 +70,12 @@ module _ (mast mast_now : MastState) (ear ear_now : EarState) where
       by : (empty : Bool) → RefusesFew (words_meaning (if empty then None else asked_drill (number_of first) (number_of second)) mast mast_now ear ear_now)
       by true = none_few
       by false = drill_few (number_of first) (number_of second)
-  words_few (first ∷ second ∷ more ∷ words) = none_few
+  words_few (first ∷ second ∷ third ∷ []) = by (length first == 0)
+    where
+      by : (empty : Bool) → RefusesFew (words_meaning (if empty then None else asked_of_three (codes "drill") first second third) mast mast_now ear ear_now)
+      by true = none_few
+      by false = none_few
+  words_few (first ∷ second ∷ third ∷ more ∷ words) = none_few
 
 pub drill_ends : (words : List (List ℕ)) (mast mast_now : MastState) (ear ear_now : EarState) (before now : ShelfState) (s : Status)
     → QuietAnswers (words_meaning (asked_of (codes "drill" ∷ words)) mast mast_now ear ear_now) before now s → IsAmong s

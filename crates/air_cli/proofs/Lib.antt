@@ -13,6 +13,7 @@ pub mod SplitLemmas
 pub mod ScriptLemmas
 pub mod ScriptAirings
 pub mod TuneLemmas
+pub mod SeekLemmas
 pub mod DrillLemmas
 pub mod AuditLemmas
 pub mod RunMeaningLemmas
@@ -29,6 +30,7 @@ pub mod WholeRecordLemmas
 pub mod ReadSoFar
 pub mod PieceLemmas
 pub mod ReadingLemmas
+pub mod HearerLemmas
 pub mod HeardSoFar
 pub mod CountLemmas
 pub mod OutputLemmas
@@ -38,6 +40,7 @@ mod ToldExamples
 mod WordExamples
 mod CommandExamples
 mod SplitExamples
+mod SeekExamples
 mod RunExamples
 mod ListenExamples
 mod AnswerExamples

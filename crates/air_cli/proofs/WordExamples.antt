@@ -9,7 +9,7 @@ use Rattle.air_cli.specs.Commands.{quiet_meaning}
 use Rattle.air_cli.specs.ReportsAndTapes.{ReportAndTape, given_status}
 use Rattle.air_cli.specs.Meanings.{no_command}
 use Rattle.air_cli.specs.Run.{run_meaning}
-use Rattle.air_cli.specs.Words.{AsksAudit, AsksCast, AsksDrill, AsksListen, AsksPlan, AsksRun, AsksScript, AsksSplit, AsksTune, asked_drill, asked_of, asked_of_numbers, asked_of_one, asked_of_two, port_of}
+use Rattle.air_cli.specs.Words.{AsksAudit, AsksCast, AsksDrill, AsksListen, AsksPlan, AsksRun, AsksScript, AsksSeek, AsksSplit, AsksTune, asked_drill, asked_of, asked_of_numbers, asked_of_one, asked_of_three, asked_of_two, asked_seek, item_of, place_of, port_of}
 
 -- A shelf that tells nothing, and what words that are no command would give.
 abbrev nothing : ShelfState
@@ -39,6 +39,22 @@ pub record Words : Type 0 where
   empty_name : asked_of (codes "plan" ∷ [] ∷ []) ≡ None
   empty_tape : asked_of (codes "tune" ∷ codes "d" ∷ [] ∷ []) ≡ None
   four_words : asked_of (codes "tune" ∷ codes "d" ∷ codes "t" ∷ codes "u" ∷ []) ≡ None
+  -- An item is sought from a place on, by numbers that are spelled as numbers are.
+  seek : asked_of (codes "seek" ∷ codes "t" ∷ codes "65534" ∷ codes "4294967295" ∷ []) ≡ Some (AsksSeek (codes "t") 65534 4294967295)
+  seek_nothing : asked_of (codes "seek" ∷ [] ∷ codes "0" ∷ codes "0" ∷ []) ≡ None
+  seek_of_three : asked_of (codes "seek" ∷ codes "t" ∷ codes "0" ∷ []) ≡ None
+  seek_of_five : asked_of (codes "seek" ∷ codes "t" ∷ codes "0" ∷ codes "0" ∷ codes "0" ∷ []) ≡ None
+  no_spelling : asked_of_three (codes "seek") (codes "t") (codes "00") (codes "0") ≡ None
+  no_seek : asked_of_three (codes "Seek") (codes "t") (codes "0") (codes "0") ≡ None
+  sought : asked_seek (codes "t") (Some 1) (Some 2) ≡ Some (AsksSeek (codes "t") 1 2)
+  no_item_sought : asked_seek (codes "t") None (Some 2) ≡ None
+  no_place_sought : asked_seek (codes "t") (Some 1) None ≡ None
+  last_item : item_of (Some 65534) ≡ Some 65534
+  no_item : item_of (Some 65535) ≡ None
+  unspelled_item : item_of None ≡ None
+  last_place : place_of (Some 4294967295) ≡ Some 4294967295
+  no_place : place_of (Some 4294967296) ≡ None
+  unspelled_place : place_of None ≡ None
   first_port : port_of (Some 1) ≡ Some 1
   last_port : port_of (Some 65535) ≡ Some 65535
   no_port : port_of (Some 65536) ≡ None
@@ -82,6 +98,21 @@ words = record {
   empty_name = refl;
   empty_tape = refl;
   four_words = refl;
+  seek = refl;
+  seek_nothing = refl;
+  seek_of_three = refl;
+  seek_of_five = refl;
+  no_spelling = refl;
+  no_seek = refl;
+  sought = refl;
+  no_item_sought = refl;
+  no_place_sought = refl;
+  last_item = refl;
+  no_item = refl;
+  unspelled_item = refl;
+  last_place = refl;
+  no_place = refl;
+  unspelled_place = refl;
   first_port = refl;
   last_port = refl;
   no_port = refl;

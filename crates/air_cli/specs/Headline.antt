@@ -178,8 +178,8 @@ pub record AuditStands (deck report : List ℕ) (before now : ShelfState) (s : S
 
 -- ---- calls
 
--- What holds if `air_quiet` succeeded with this status. For `plan`, `split` and `drill`, and for words that are no command, the clause `answers` says
--- everything.
+-- What holds if `air_quiet` succeeded with this status. For `plan`, `split`, `seek` and `drill`, and for words that are no command, the clause
+-- `answers` says everything.
 abbrev pub QuietHeadline : Option Request → ShelfState → ShelfState → Status → Type 0
 QuietHeadline (Some (AsksScript deck tape)) before now s = ScriptStands deck tape before now
 QuietHeadline (Some (AsksTune deck tape)) before now s = TuneStands deck tape before now

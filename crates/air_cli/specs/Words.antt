@@ -1,19 +1,21 @@
 -- The forms of the words of a command: which of them the words are, if they are one. A name is the list of its bytes. A file's name is any word that
--- isn't empty. A seed, a size and a port are spelled like numbers.
+-- isn't empty. A seed, a size, a port, an item and a place are spelled like numbers.
 use Rattle.std.specs.Prelude.{ℕ, ◌≤◌, ◌||◌, ◌&&◌, ◌==◌, nat_le, if◌then◌else◌, List, [], ◌∷◌, length, Option, Some, None, codes, nat_eq, ⊤}
 use Rattle.std.specs.Option.{option_map}
 use Rattle.std.specs.Cmp.Lexicographic.{pointwise}
 use Rattle.air_base.specs.Numbers.{number_of}
+use Rattle.air_cli.specs.declared.words.places.TheConstants.{LAST_ITEM, LAST_PLACE}
 use Rattle.air_cli.specs.declared.words.ports.TheConstants.{LAST_PORT}
 use Rattle.item_catalog.specs.declared.deck.drill.TheConstants.{MOST_DRILL_SIZE}
 
 -- A request, one for each command, with what its words name: the deck first, then a tape, a report or a port. A drill has a seed and a size.
--- `AsksScript` has a tape if the tape is to be written.
+-- `AsksScript` has a tape if the tape is to be written. `AsksSeek` has a tape, an item, and the place of the record at which the search begins.
 pub data Request : Type 0 where
   AsksPlan : List ℕ → Request
   AsksSplit : List ℕ → Request
   AsksScript : List ℕ → Option (List ℕ) → Request
   AsksTune : List ℕ → List ℕ → Request
+  AsksSeek : List ℕ → ℕ → ℕ → Request
   AsksDrill : ℕ → ℕ → Request
   AsksAudit : List ℕ → List ℕ → Request
   AsksRun : List ℕ → List ℕ → Request
@@ -34,6 +36,21 @@ asked_drill seed size = None
 abbrev pub port_of : Option ℕ → Option ℕ
 port_of (Some n) = if nat_le 1 n && nat_le n LAST_PORT then Some n else None
 port_of None = None
+
+-- The item of a number, if it is one: up to 65,534.
+abbrev pub item_of : Option ℕ → Option ℕ
+item_of (Some n) = if nat_le n LAST_ITEM then Some n else None
+item_of None = None
+
+-- The place of a number, if it is one: up to 4,294,967,295.
+abbrev pub place_of : Option ℕ → Option ℕ
+place_of (Some n) = if nat_le n LAST_PLACE then Some n else None
+place_of None = None
+
+-- What a tape, an item and a place ask for: a search, if there are an item and a place.
+abbrev pub asked_seek : List ℕ → Option ℕ → Option ℕ → Option Request
+asked_seek tape (Some item) (Some from) = Some (AsksSeek tape item from)
+asked_seek tape item from = None
 
 -- What a command's name and one file ask for.
 abbrev pub asked_of_one : List ℕ → List ℕ → Option Request
@@ -60,10 +77,17 @@ asked_of_two name first second =
     else if pointwise nat_eq name (codes "run") then Some (AsksRun first second)
     else asked_of_numbers name first second
 
+-- What a command's name and three words more ask for.
+abbrev pub asked_of_three : List ℕ → List ℕ → List ℕ → List ℕ → Option Request
+asked_of_three name first second third =
+    if pointwise nat_eq name (codes "seek") then asked_seek first (item_of (number_of second)) (place_of (number_of third))
+    else None
+
 -- What the words ask for; `None` if they are no command.
 abbrev pub asked_of : List (List ℕ) → Option Request
 asked_of [] = None
 asked_of (name ∷ []) = None
 asked_of (name ∷ deck ∷ []) = if length deck == 0 then None else asked_of_one name deck
 asked_of (name ∷ first ∷ second ∷ []) = if length first == 0 || length second == 0 then None else asked_of_two name first second
-asked_of (name ∷ first ∷ second ∷ more ∷ words) = None
+asked_of (name ∷ first ∷ second ∷ third ∷ []) = if length first == 0 then None else asked_of_three name first second third
+asked_of (name ∷ first ∷ second ∷ third ∷ more ∷ words) = None

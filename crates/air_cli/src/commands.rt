@@ -11,5 +11,6 @@ pub(crate) mod run;
 pub(crate) mod run_on_air;
 pub(crate) mod run_reports;
 pub(crate) mod script;
+pub(crate) mod seek;
 pub(crate) mod split;
 pub(crate) mod tune;

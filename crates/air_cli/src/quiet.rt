@@ -11,6 +11,7 @@ ghost use Rattle.air_cli.specs.Drill.{drill_meaning};
 ghost use Rattle.air_cli.specs.Headline.{QuietHeadline};
 ghost use Rattle.air_cli.specs.Meanings.{no_command};
 ghost use Rattle.air_cli.specs.Plan.{plan_meaning};
+ghost use Rattle.air_cli.specs.Seek.{seek_meaning};
 ghost use Rattle.air_cli.specs.Split.{split_meaning};
 ghost use Rattle.air_cli.specs.Tune.{tune_meaning};
 ghost use Rattle.air_cli.specs.Words.{HasSize, asked_of};
@@ -20,6 +21,7 @@ use crate::commands::audit::audit;
 use crate::commands::drill::drill;
 use crate::commands::plan::plan;
 use crate::commands::script::script;
+use crate::commands::seek::seek;
 use crate::commands::split::split;
 use crate::commands::tune::tune;
 use crate::endings::give_or_refuse;
@@ -30,8 +32,8 @@ use air_report::Status;
 use std::alloc::Global;
 use std::thread::Threads;
 
-/// Runs what the words ask for: `plan DECK`, `split DECK`, `script DECK`, `script DECK TAPE`, `tune DECK TAPE`, `drill SEED SIZE`
-/// or `audit DECK REPORT`.
+/// Runs what the words ask for: `plan DECK`, `split DECK`, `script DECK`, `script DECK TAPE`, `tune DECK TAPE`, `seek TAPE ITEM FROM`,
+/// `drill SEED SIZE` or `audit DECK REPORT`.
 pub fn air_quiet<T: Threads + Sync, S: Shelf>(
     threads: &T,
     alloc: Global,
@@ -65,6 +67,9 @@ fn run<T: Threads + Sync, S: Shelf>(
         Command::Split { deck } => give_split(alloc, shelf, deck),
         Command::Script { deck, tape } => script(threads, alloc, shelf, deck, *tape),
         Command::Tune { deck, tape } => give_tuning(threads, alloc, shelf, deck, tape),
+        Command::Seek { tape, item, from } => {
+            give_search(threads, alloc, shelf, tape, *item, *from)
+        }
         Command::Drill { seed, size } => give_drill(threads, alloc, shelf, *seed, *size),
         Command::Audit { deck, report } => give_audit(alloc, shelf, deck, report),
         Command::Run { .. } | Command::Cast { .. } | Command::Listen { .. } => {
@@ -111,6 +116,22 @@ fn give_tuning<T: Threads + Sync, S: Shelf>(
     ensures leaves { Leaves (tune_meaning deck.now tape.now) (S.state shelf.old) (S.state shelf.new) }
 {
     let made = tune(threads, alloc, shelf, deck, tape);
+    give_or_refuse(alloc, shelf, None, made)
+}
+
+/// Seeks an item on a tape and delivers the line of the search; or refuses.
+fn give_search<T: Threads + Sync, S: Shelf>(
+    threads: &T,
+    alloc: Global,
+    shelf: &mut S,
+    tape: &str,
+    item: u16,
+    from: u32,
+) -> Status
+    ensures answers { QuietAnswers (seek_meaning tape.now item from) (S.state shelf.old) (S.state shelf.new) result }
+    ensures leaves { Leaves (seek_meaning tape.now item from) (S.state shelf.old) (S.state shelf.new) }
+{
+    let made = seek(threads, alloc, shelf, tape, item, from);
     give_or_refuse(alloc, shelf, None, made)
 }
 

@@ -1,15 +1,17 @@
-//! A named tape that is read in pieces to its end, and the sessions of a deck's readers over it.
+//! A named tape that is read in pieces to its end while a hearer hears it, and the sessions of a deck's readers over it.
 
-ghost use Rattle.std.specs.Prelude.{◌≡◌, ◌≤◌, [], All, IfErr, IfOk, MatchResult, OnOk, length};
+ghost use Rattle.std.specs.Prelude.{◌≡◌, ◌≤◌, [], IfErr, IfOk, MatchResult, OnOk, length};
 ghost use Rattle.air_base.specs.declared.limits.TheConstants.{MOST_TAPE_BYTES};
 ghost use Rattle.air_cli.specs.NamedFiles.{ReadsInput};
-ghost use Rattle.receiver_core.specs.Receivers.{heard_count};
 ghost use Rattle.air_cli.specs.HeardTapes.{AreFileSessions, UnheardCause};
-ghost use Rattle.air_cli.specs.Private.Pieces.{HaveHeardFile, IsCutBefore};
+ghost use Rattle.air_cli.specs.Private.Pieces.{IsCutBefore, IsOfTape};
 
+pub(crate) mod hearers;
 pub(crate) mod piece;
+pub(crate) mod searches;
 pub(crate) mod whole_records;
 
+use crate::tapes::hearers::Hearer;
 use crate::tapes::piece::Piece;
 use crate::tapes::whole_records::hear_whole_records;
 use air_base::limits::MOST_TAPE_BYTES;
@@ -21,7 +23,7 @@ use std::alloc::Global;
 use std::thread::Threads;
 
 /// The greatest number of bytes of a tape that are read before they are heard, if no record is longer.
-const READ_PIECE_BYTES: usize = 4_194_304;
+pub(crate) const READ_PIECE_BYTES: usize = 4_194_304;
 
 /// The greatest number of bytes of a tape, and the number of bytes that the buffer of a piece has room for at first.
 #[derive(Clone, Copy, Debug, PartialEq, Eq)]
@@ -69,18 +71,19 @@ pub fn piece_sessions<T: Threads + Sync, S: Shelf>(
     Ok(sessions)
 }
 
-/// Lets all hear the records of a named tape, piece after piece, to its end.
+/// Lets a hearer hear the records of a named tape, piece after piece, to its end.
 #[tactic(auto, unfolding(crate::specs::HeardTapes::UnheardCause, crate::specs::NamedFiles::UnreadCause))]
-fn hear_pieces<T: Threads + Sync, S: Shelf>(
+pub(crate) fn hear_pieces<T: Threads + Sync, H: Hearer, S: Shelf>(
     threads: &T,
     alloc: Global,
     shelf: &mut S,
     name: &str,
-    readers: &mut Together,
+    hearer: &mut H,
     sizes: PieceSizes,
 ) -> Result<(), Status>
-    requires { All (λ l. heard_count l.state.counts ≡ 0) readers.old }
-    ensures heard { OnOk result (HaveHeardFile name.now sizes.tape (S.state shelf.old) readers.old readers.new) }
+    requires { (first : H) × H.HasHeard [] first hearer.old }
+    ensures heard { (first : H) → H.HasHeard [] first hearer.old →
+        OnOk result (IsOfTape name.now sizes.tape (S.state shelf.old) (λ records. H.HasHeard records first hearer.new)) }
     ensures refused { IfErr result (UnheardCause name.now sizes.tape (S.state shelf.old) (S.state shelf.new)) }
     ensures reads { ReadsInput name.now result (S.state shelf.old) (S.state shelf.new) }
 {
@@ -102,7 +105,7 @@ fn hear_pieces<T: Threads + Sync, S: Shelf>(
             });
         }
         left -= count;
-        let heard = hear_whole_records(threads, alloc, readers, piece.as_slice())?;
+        let heard = hear_whole_records(threads, alloc, hearer, piece.as_slice())?;
         piece.let_go(heard)?;
     }
 }

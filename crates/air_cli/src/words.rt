@@ -1,11 +1,13 @@
 //! The words of a command, and the help on them.
 
 ghost use Rattle.std.specs.Prelude.{◌≡◌, option_map, map, string_bytes, IfSome};
-ghost use Rattle.air_cli.specs.Words.{HasSize, asked_drill, asked_of, asked_of_numbers, asked_of_one, asked_of_two};
+ghost use Rattle.air_cli.specs.Words.{HasSize, asked_drill, asked_of, asked_of_numbers, asked_of_one, asked_of_three, asked_of_two, asked_seek};
 ghost use Rattle.air_cli.specs.Commands.{asked_by};
 
+pub(crate) mod places;
 pub(crate) mod ports;
 
+use crate::words::places::{item_of, place_of};
 use crate::words::ports::port_of;
 use air_base::read_u64;
 use item_catalog::MOST_DRILL_SIZE;
@@ -13,19 +15,20 @@ use item_catalog::MOST_DRILL_SIZE;
 /// What the program can do: a line for each command.
 pub const HELP: &str = "airdisk: data on air, proved
 
-  airdisk plan DECK           print the broadcast program of a deck
-  airdisk split DECK          print the disk sizes of least expected wait, beside the deck's own
-  airdisk script DECK         run the script of a deck, and print the report of its readers
-  airdisk script DECK TAPE    the same, and write what was aired to a tape
-  airdisk tune DECK TAPE      let the readers of a deck hear a tape, and print their report
-  airdisk drill SEED SIZE     make a deck of size 1 to 100, run its script, and print what came of it
-  airdisk audit DECK REPORT   replay a report by its own history, and print which of its lines agree
-  airdisk run DECK TAPE       run a deck on threads, print the report, and write the tape
-  airdisk cast DECK PORT      run a deck on threads, send what is aired to a port of this machine, and print the history
-  airdisk listen DECK PORT    let the readers of a deck hear what comes to a port, and print their report
-  airdisk --help, -h          print this text
-  airdisk --version, -V       print the version
-  airdisk help [COMMAND]      print this text, or its lines on a command
+  airdisk plan DECK            print the broadcast program of a deck
+  airdisk split DECK           print the disk sizes of least expected wait, beside the deck's own
+  airdisk script DECK          run the script of a deck, and print the report of its readers
+  airdisk script DECK TAPE     the same, and write what was aired to a tape
+  airdisk tune DECK TAPE       let the readers of a deck hear a tape, and print their report
+  airdisk seek TAPE ITEM FROM  find an item on an indexed tape from a record on, and print where it is
+  airdisk drill SEED SIZE      make a deck of size 1 to 100, run its script, and print what came of it
+  airdisk audit DECK REPORT    replay a report by its own history, and print which of its lines agree
+  airdisk run DECK TAPE        run a deck on threads, print the report, and write the tape
+  airdisk cast DECK PORT       run a deck on threads, send what is aired to a port of this machine, and print the history
+  airdisk listen DECK PORT     let the readers of a deck hear what comes to a port, and print their report
+  airdisk --help, -h           print this text
+  airdisk --version, -V        print the version
+  airdisk help [COMMAND]       print this text, or its lines on a command
 
   AIRDISK_RATE=N airdisk cast DECK PORT         send N buckets a second, 1 to 1000000
   AIRDISK_SILENCE=N airdisk listen DECK PORT    once a datagram has come, end after N seconds of silence, at most 1000000; 30 where not set, 0 for never
@@ -53,6 +56,12 @@ pub enum Command<'a> {
     Tune {
         deck: &'a str,
         tape: &'a str,
+    },
+    /// To seek an item on an indexed tape, from a record on.
+    Seek {
+        tape: &'a str,
+        item: u16,
+        from: u32,
     },
     /// To run the drill of a seed and a size.
     Drill {
@@ -90,6 +99,9 @@ pub fn command_of<'a>(words: &'a [String]) -> Option<Command<'a>>
         [name, deck] if !deck.is_empty() => command_of_one(name, deck),
         [name, first, second] if !first.is_empty() && !second.is_empty() => {
             command_of_two(name, first, second)
+        }
+        [name, first, second, third] if !first.is_empty() => {
+            command_of_three(name, first, second, third)
         }
         _ => None,
     }
@@ -160,6 +172,34 @@ fn command_of_numbers<'a>(name: &str, first: &'a str, second: &str) -> Option<Co
         }
     } else {
         None
+    }
+}
+
+/// What a command's name and three words more ask for.
+fn command_of_three<'a>(
+    name: &str,
+    first: &'a str,
+    second: &str,
+    third: &str,
+) -> Option<Command<'a>>
+    ensures asked { option_map asked_by result ≡ asked_of_three name.now first.now second.now third.now }
+    ensures sized { IfSome result (λ c. HasSize (asked_by c)) }
+{
+    if name == "seek" {
+        seek_of(first, item_of(second), place_of(third))
+    } else {
+        None
+    }
+}
+
+/// The search on a tape for an item from a place on, if there are both.
+fn seek_of<'a>(tape: &'a str, item: Option<u16>, from: Option<u32>) -> Option<Command<'a>>
+    ensures asked { option_map asked_by result ≡ asked_seek tape.now item from }
+    ensures sized { IfSome result (λ c. HasSize (asked_by c)) }
+{
+    match (item, from) {
+        (Some(item), Some(from)) => Some(Command::Seek { tape, item, from }),
+        _ => None,
     }
 }
 

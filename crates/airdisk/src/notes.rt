@@ -35,6 +35,15 @@ pub fn word(words: &[String], place: usize) -> &str {
     }
 }
 
+/// The tape that a command reads: of `seek` the first word after it, of another command the second.
+fn tape_word(words: &[String]) -> &str {
+    if word(words, 0) == "seek" {
+        word(words, 1)
+    } else {
+        word(words, 2)
+    }
+}
+
 /// What is wrong with a deck.
 fn fault_note<R: Files + Print + Drop>(
     rt: &R,
@@ -81,7 +90,7 @@ fn size_note<R: Files>(
     } else if limit == MOST_REPORT_BYTES as u64 {
         (word(words, 2), "report")
     } else {
-        (word(words, 2), "tape")
+        (tape_word(words), "tape")
     };
     let size = plain_size(rt, name);
     let name = ShownText::whole(name);
@@ -156,7 +165,7 @@ fn text_of<R: Files + Print + Drop>(
         }
         Status::ReadFault | Status::WriteFault => failure_note(alloc, words, shelf, status),
         Status::AirFault { at } => air_failure_note(alloc, air, at),
-        Status::TapeCut { at } => cut_note(rt, alloc, shelf, word(words, 2), at),
+        Status::TapeCut { at } => cut_note(rt, alloc, shelf, tape_word(words), at),
         Status::TooLarge { limit } => size_note(rt, alloc, words, limit),
         Status::TooLong { bytes } => Ok(Some(format!(in alloc;
             "{deck}: its tape would have {bytes} bytes, and a tape may have {MOST_TAPE_BYTES}"

@@ -25,6 +25,7 @@ const HELP: &str = "airdisk: a help for cases
   airdisk script DECK         run a script
   airdisk script DECK TAPE    the same, and write a tape
   airdisk drill SEED SIZE     make a deck
+  airdisk seek TAPE ITEM FROM  find an item
   airdisk cast DECK PORT      air a deck
   airdisk --help, -h          print this
   airdisk help [COMMAND]      print this, or some of it

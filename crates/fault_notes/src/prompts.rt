@@ -11,10 +11,12 @@ use item_catalog::MOST_DRILL_SIZE;
 use std::alloc::Global;
 
 /// The words of a form that stand for numbers, each with its least and its greatest number.
-const NUMBERS: [(&str, u64, u64); 3] = [
+const NUMBERS: [(&str, u64, u64); 5] = [
     ("SEED", 0, u64::MAX),
     ("SIZE", 1, MOST_DRILL_SIZE as u64),
     ("PORT", 1, u16::MAX as u64),
+    ("ITEM", 0, 65_534),
+    ("FROM", 0, u32::MAX as u64),
 ];
 
 /// What is wrong with a word in a place for a number, or `None`.

@@ -1,13 +1,11 @@
--- For private steps alone. A piece of a tape in its buffer, what a read adds to it, and what was heard of the whole tape.
-use Rattle.std.specs.Prelude.{◌≡◌, ◌≤◌, ◌<◌, ◌-◌, ◌⊎◌, ℕ, IsTrue, List, [], ◌++◌, length, map, take, drop, None, Option}
+-- For private steps alone. A piece of a tape in its buffer, what a read adds to it, and what is so of the whole tape.
+use Rattle.std.specs.Prelude.{◌≡◌, ◌≤◌, ◌<◌, ◌-◌, ◌⊎◌, ℕ, IsTrue, List, [], ◌++◌, length, take, drop, None, Option}
 use Rattle.std.specs.Io.KnownBytes.{Consumes, IsAtEnd}
 use Rattle.air_devices.specs.WhatIsTold.{ToldIs}
 use Rattle.air_devices.specs.Shelves.{ShelfState}
-use Rattle.air_model.specs.Buckets.{bucket_in}
 use Rattle.air_model.specs.Tapes.{IsTape, ends_inside, tape_read}
 use Rattle.air_report.specs.declared.status.Status.{Status}
 use Rattle.air_report.specs.declared.status.Status.TheVariants as status
-use Rattle.listeners.specs.Listeners.{Listener, hears}
 
 -- The bytes that were read and not dropped, and the number of bytes that there is room for.
 pub record PieceBytes : Type 0 where
@@ -36,10 +34,10 @@ pub record AreWholeRecords (piece : List ℕ) (n : ℕ) : Type 0 where
 abbrev pub IsCutBefore : List ℕ → ℕ → Status → Type 0
 IsCutBefore rest len s = (0 < length rest) × (s ≡ status.TapeCut (len - length rest))
 
--- Some bytes, at most `most`, are a whole tape, and all listeners heard its records. If the named file is told, these are its bytes.
-pub record HaveHeardFile (name : List ℕ) (most : ℕ) (shelf : ShelfState) (before now : List Listener) : Type 0 where
+-- Some bytes, at most `most`, are a whole tape, and this holds of its records. If the named file is told, these are its bytes.
+pub record IsOfTape (name : List ℕ) (most : ℕ) (shelf : ShelfState) (P : List (List ℕ) → Type 0) : Type 0 where
   pub bytes : List ℕ
   pub told : ToldIs (shelf.told.file name) bytes
   pub fits : length bytes ≤ most
   pub whole : (tape_read bytes).cut ≡ None
-  pub heard : now ≡ map (hears (map bucket_in (tape_read bytes).records)) before
+  pub so : P (tape_read bytes).records

@@ -1,6 +1,6 @@
 //! The command `script`: the script of a named deck on the air, piece by piece.
 //!
-//! Every reader hears a piece, it is added to the output, and the script goes on; where no output is named the readers hear the script
+//! Every reader hears a piece, it is added to the output, and the next piece follows. If no output is named, the readers hear the script
 //! without its tape. The report is made at the end, and then printed.
 
 ghost use Rattle.std.specs.Prelude.{◌≡◌, ◌≤◌, IfErr, IfOk, None, OnOk, length, option_map};
@@ -50,7 +50,7 @@ pub(crate) fn script<T: Threads + Sync, S: Shelf>(
     }
 }
 
-/// The named deck with its plans, where its script can be aired: what that gives is known then, whatever output is to take the tape.
+/// The named deck with its plans, if its script can be aired: what that gives is known then, for any output that is to take the tape.
 fn read_script<S: Shelf>(alloc: Global, shelf: &mut S, name: &str) -> Result<Planned, Status>
     ensures few { IfOk result (λ deck. length (script_tape deck) ≤ MOST_TAPE_BYTES) }
     ensures made { IfOk result (λ deck. IsMade (script_meaning name.now None) (S.state shelf.old) (S.state shelf.new) (script_given deck)) }

@@ -1,32 +1,30 @@
-//! The whole records at the beginning of a piece of a tape, which all readers hear.
+//! The whole records at the beginning of a piece of a tape, which a hearer hears.
 
-ghost use Rattle.std.specs.Prelude.{◌≡◌, ◌<◌, ◌+◌, ◌^◌, All, IfOk, OnOk, length, map};
-ghost use Rattle.air_model.specs.Buckets.{bucket_in};
+ghost use Rattle.std.specs.Prelude.{◌≡◌, ◌<◌, ◌+◌, ◌^◌, ◌++◌, ℕ, List, IfOk, OnOk, length};
 ghost use Rattle.air_model.specs.Tapes.{tape_read};
-ghost use Rattle.listeners.specs.Listeners.{hears};
-ghost use Rattle.receiver_core.specs.Receivers.{heard_count};
 ghost use Rattle.air_cli.specs.Private.Pieces.{AreWholeRecords};
 
+use crate::tapes::hearers::Hearer;
 use air_base::NoMemory;
 use bucket_codec::{TapeFault, check_tape};
-use listeners::Together;
 use std::alloc::Global;
 use std::thread::Threads;
 
-/// Lets all hear the whole records at the beginning of a piece, side by side, and answers how many bytes these have: what follows is
-/// nothing, or a record that the piece's end divides.
-pub(crate) fn hear_whole_records<T: Threads + Sync>(
+/// Lets a hearer hear the whole records at the beginning of a piece, and returns their number of bytes. After them comes nothing, or a record that the
+/// piece's end divides.
+pub(crate) fn hear_whole_records<T: Threads + Sync, H: Hearer>(
     threads: &T,
     alloc: Global,
-    readers: &mut Together,
+    hearer: &mut H,
     piece: &[u8],
 ) -> Result<usize, NoMemory>
-    requires { All (λ l. heard_count l.state.counts + length (tape_read piece.now).records < 2 ^ 64) readers.old }
-    ensures heard { OnOk result (readers.new ≡ map (hears (map bucket_in (tape_read piece.now).records)) readers.old) }
+    requires { (first : H) × (so_far : List (List ℕ)) × H.HasHeard so_far first hearer.old × (length so_far + length (tape_read piece.now).records < 2 ^ 64) }
+    ensures heard { (first : H) (so_far : List (List ℕ)) → H.HasHeard so_far first hearer.old →
+        OnOk result (H.HasHeard (so_far ++ (tape_read piece.now).records) first hearer.new) }
     ensures beginning { IfOk result (AreWholeRecords piece.now) }
 {
     let len = whole_records_len(piece);
-    readers.hear(threads, alloc, &piece[..len])?;
+    hearer.hear_piece(threads, alloc, &piece[..len])?;
     Ok(len)
 }
 
