@@ -1,7 +1,7 @@
--- Lists of numbers as texts on small examples: what a text spells, and where its first bad part begins.
+-- Lists of numbers as texts on small examples: what a text spells, where its first bad part begins, and the text of a list.
 use Rattle.std.specs.Prelude.{◌≡◌, [], ◌∷◌, Some, None, codes, refl}
 use Rattle.air_base.specs.Numbers.{number_of}
-use Rattle.air_base.specs.NumberLists.{all_some, bad_part_at, list_of}
+use Rattle.air_base.specs.NumberLists.{all_some, bad_part_at, list_of, list_text}
 
 empty_list : list_of number_of ([]) ≡ Some []
 unfolding all_some number_of
@@ -62,3 +62,12 @@ one_above = refl
 one_above_at : bad_part_at number_of (codes "18446744073709551616") ≡ Some 0
 unfolding bad_part_at number_of
 one_above_at = refl
+
+parts_joined : list_text (codes "10" ∷ codes "2" ∷ codes "x" ∷ []) ≡ codes "10 2 x"
+parts_joined = refl
+
+part_alone : list_text (codes "10" ∷ []) ≡ codes "10"
+part_alone = refl
+
+no_part : list_text [] ≡ []
+no_part = refl

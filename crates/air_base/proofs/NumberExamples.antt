@@ -37,3 +37,8 @@ small_text = refl
 greatest_text : number_text 18446744073709551615 ≡ codes "18446744073709551615"
 unfolding number_text
 greatest_text = refl
+
+-- Of a greater number than one of 64 bits the last 20 digits are the text.
+last_twenty : number_text 123456789012345678901 ≡ codes "23456789012345678901"
+unfolding number_text
+last_twenty = refl

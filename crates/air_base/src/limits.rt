@@ -14,6 +14,9 @@ pub const AGE_CAP: u32 = 255;
 /// The newest version of buckets.
 pub const NEWEST_VERSION: u64 = 2;
 
+/// The most items of a group.
+pub const MOST_GROUP: u64 = 1_024;
+
 /// How many numbers there are for items: each has 16 bits.
 pub const ITEM_NUMBERS: usize = 65_536;
 

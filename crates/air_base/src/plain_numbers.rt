@@ -2,7 +2,7 @@
 //!
 //! A plain number is followed by a space or the list's end. `plain_short` takes at most three digits; `plain_number` takes
 //! longer numbers too. Parts that aren't plain are left to the calls of `leading_numbers`, so None says nothing about the part.
-//! The last part of a list may be too near to the end for the calls by place: it is then read from a copy with spaces after it.
+//! The last part of a list may be too near to the end for the calls by place: it is then read from an array, with spaces after it.
 
 ghost use Rattle.std.specs.Prelude.{◌<◌, ◌≤◌, ◌+◌, length, IfSome};
 ghost use Rattle.air_base.specs.Numbers.{number_of};

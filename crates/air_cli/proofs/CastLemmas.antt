@@ -9,7 +9,7 @@ use Rattle.air_devices.specs.Shelves.{ShelfState}
 use Rattle.air_devices.specs.Unchanged.{KeepsButPrinted}
 use Rattle.air_model.specs.Decks.{Deck, IsDeck}
 use Rattle.air_model.specs.Outputs.{cast_output}
-use Rattle.deck_runs.specs.DeckBytes.{deck_bytes}
+use Rattle.air_sender.specs.AiredBytes.{aired_bytes}
 use Rattle.deck_runs.specs.declared.threads.RunFault.{RunFault}
 use Rattle.deck_runs.specs.declared.threads.RunFault.TheVariants as fault
 use Rattle.air_report.specs.declared.status.Status.{Status}
@@ -90,7 +90,7 @@ rose_later before now (inl less) = omega arith
 rose_later before now (inr last) = let stays = last.1 in omega arith
 
 -- A run that was cast sent all.
-pub all_cast : (d : Deck) (to : ℕ) (before now : MastState) (run : Run) → IsRun d run → Changes (λ _. all_sent (deck_bytes d run.history)) before.told now.told
+pub all_cast : (d : Deck) (to : ℕ) (before now : MastState) (run : Run) → IsRun d run → Changes (λ _. all_sent (aired_bytes d run.history)) before.told now.told
     → now.faults ≡ before.faults → now.port ≡ Some to → HasSent d to before now
 all_cast d to before now run is sent calm port = record { sent = inr (run.history, is.whole, sent); later = omega (arith, calm); port = port }
 
@@ -116,7 +116,7 @@ leaves_cast deck to shelf before now d spells made (inr sent) = inr (d, spells, 
 
 pub is_cast : (d : Deck) (to : ℕ) (before now : MastState) (text : List ℕ) (run : Run) → IsRun d run
     → IsTrueRun d run × TellsHistory d run.history (cast_output run.history run.glances run.looks) → text ≡ cast_output run.history run.glances run.looks
-    → Changes (λ _. all_sent (deck_bytes d run.history)) before.told now.told → now.faults ≡ before.faults → now.port ≡ Some to → IsCast d to before now (only_text text) run
+    → Changes (λ _. all_sent (aired_bytes d run.history)) before.told now.told → now.faults ≡ before.faults → now.port ≡ Some to → IsCast d to before now (only_text text) run
 is_cast d to before now text run is true same sent calm port = record {
   run_is = is;
   true_is = true.0;

@@ -5,9 +5,10 @@ use Rattle.air_devices.specs.Masts.{MastState}
 use Rattle.air_cli.specs.Commands.{quiet_meaning}
 use Rattle.air_cli.specs.Meanings.{no_command}
 use Rattle.air_cli.specs.OnAir.{words_meaning}
-use Rattle.air_cli.specs.Words.{Request, AsksAudit, AsksCast, AsksDrill, AsksListen, AsksPlan, AsksRun, AsksScript, AsksSeek, AsksSplit, AsksTune}
+use Rattle.air_cli.specs.Words.{Request, AsksAudit, AsksBeam, AsksCast, AsksDrill, AsksListen, AsksPlan, AsksRun, AsksScript, AsksSeek, AsksSplit, AsksTune}
 use Rattle.air_cli.proofs.InputLemmas.{CommandFacts, GivesOne}
 use Rattle.air_cli.proofs.AuditLemmas.{audit_facts, audit_one}
+use Rattle.air_cli.proofs.BeamLemmas.{beam_facts, beam_one}
 use Rattle.air_cli.proofs.CastLemmas.{cast_facts}
 use Rattle.air_cli.proofs.DrillLemmas.{drill_facts, drill_one}
 use Rattle.air_cli.proofs.ListenLemmas.{listen_facts}
@@ -27,6 +28,7 @@ quiet_facts (Some (AsksPlan deck)) = plan_facts deck
 quiet_facts (Some (AsksSplit deck)) = split_facts deck
 quiet_facts (Some (AsksScript deck tape)) = script_facts deck tape
 quiet_facts (Some (AsksTune deck tape)) = tune_facts deck tape
+quiet_facts (Some (AsksBeam deck tape)) = beam_facts deck tape
 quiet_facts (Some (AsksSeek tape item from)) = seek_facts tape item from
 quiet_facts (Some (AsksDrill seed size)) = drill_facts seed size
 quiet_facts (Some (AsksAudit deck report)) = audit_facts deck report
@@ -44,6 +46,7 @@ quiet_one (Some (AsksPlan deck)) = record { one = plan_one deck }
 quiet_one (Some (AsksSplit deck)) = record { one = split_one deck }
 quiet_one (Some (AsksScript deck tape)) = record { one = script_one deck tape }
 quiet_one (Some (AsksTune deck tape)) = record { one = tune_one deck tape }
+quiet_one (Some (AsksBeam deck tape)) = record { one = beam_one deck tape }
 quiet_one (Some (AsksSeek tape item from)) = record { one = seek_one tape item from }
 quiet_one (Some (AsksDrill seed size)) = record { one = λ before other a b same first second. drill_one seed size a b first second }
 quiet_one (Some (AsksAudit deck report)) = record { one = audit_one deck report }

@@ -31,7 +31,7 @@ use Rattle.air_report.specs.declared.reading.ReadReport.{ReadReport}
 use Rattle.air_report.specs.declared.status.Status.TheVariants as status
 use Rattle.air_sender.specs.TapeSizes.{tape_size}
 use Rattle.air_sender.proofs.TapeLengths.{history_size}
-use Rattle.deck_runs.specs.DeckBytes.{deck_bytes}
+use Rattle.air_sender.specs.AiredBytes.{aired_bytes}
 use Rattle.deck_runs.specs.RunTapes.{run_tape_len}
 use Rattle.deck_runs.proofs.HeardRunLemmas.{OneHistoryLaw, run_sum}
 use Rattle.live_replay.specs.FindingLaws.{GivesLook, GivesVerdict}
@@ -81,9 +81,9 @@ right = record {
   consistent = refl;
   values = λ bases. All-from_recursion (λ r. r.value ≡ table (values_of (values_in small)) (alone ten (at 0 1 ∷ at 1 1 ∷ [])) r.item) (read 0 1 10 ∷ read 1 1 20 ∷ []) (refl, (refl, tt));
   shared = tt;
-  aged = λ f. (λ ages. absurd ages, λ far. let e : false ≡ true = far in cc);
-  accepted = λ f. (λ same. (refl, refl, refl), λ whole. refl);
-  aborted = λ f. (λ aborts. absurd aborts, λ apart. apart.1 refl);
+  aged = λ f g. (λ ages. absurd ages, λ far. let e : false ≡ true = far in cc);
+  accepted = λ f g. (λ same. (refl, refl, refl), λ whole. refl);
+  aborted = λ f g. (λ aborts. absurd aborts, λ apart. apart.1 refl);
 }
 
 -- Item 1 has 20; a query isn't accepted on a part of its items; and reads that are consistent aren't aborted.
@@ -92,8 +92,8 @@ not_right : (IsRightVerdict small ten (line Accept (read 0 1 10 ∷ read 1 1 21 
 unfolding consistent alone picked_events last_alone runs_alone descends_from origin writer writer_before last_place writes descends descends_in reads front is_start starts table value_after write_of value_on_base
 not_right = (
   λ h. let e : 21 ≡ 20 = h.values bases_read 1 (read 1 1 21) (omega arith) in omega (arith, e),
-  λ h. let e : 0 ∷ [] ≡ 0 ∷ 1 ∷ [] = ((h.accepted refl).0 refl).1 in cc,
-  λ h. ((h.aborted refl).0 tt).1 refl,
+  λ h. let e : 0 ∷ [] ≡ 0 ∷ 1 ∷ [] = ((h.accepted refl refl).0 refl).1 in cc,
+  λ h. ((h.aborted refl refl).0 tt).1 refl,
 )
 
 -- Reads that are 255 cycles apart can't be judged by ages: an attempt on them is aged if the deck has version 2.
@@ -106,15 +106,15 @@ right_aged = record {
   consistent = refl;
   values = λ bases. All-from_recursion (λ r. r.value ≡ table (values_of (values_in small)) (alone ten (at 0 1 ∷ [])) r.item) (read 0 1 10 ∷ []) (refl, tt);
   shared = tt;
-  aged = λ f. (λ ages. refl, λ far. tt);
-  accepted = λ f. (λ same. cc, λ whole. let e : true ≡ false = whole.0 in cc);
-  aborted = λ f. (λ aborts. absurd aborts, λ apart. let e : true ≡ false = apart.0 in cc);
+  aged = λ f g. (λ ages. refl, λ far. tt);
+  accepted = λ f g. (λ same. cc, λ whole. let e : true ≡ false = whole.0 in cc);
+  aborted = λ f g. (λ aborts. absurd aborts, λ apart. let e : true ≡ false = apart.0 in cc);
 }
 
 -- They can if they are closer, or if the deck has version 1.
 not_aged : (IsRightVerdict (aired_in 2 small) ten (aged_at 255) → ⊥) × (IsRightVerdict small ten (aged_at 256) → ⊥)
 unfolding span spans_too_far
-not_aged = (λ h. let e : false ≡ true = (h.aged refl).0 tt in cc, λ h. let e : false ≡ true = (h.aged refl).0 tt in cc)
+not_aged = (λ h. let e : false ≡ true = (h.aged refl refl).0 tt in cc, λ h. let e : false ≡ true = (h.aged refl refl).0 tt in cc)
 
 -- Item 0 of cycle 1, and item 1 of cycle 2, which was made of the item 0 that came between: these aren't consistent, and aren't accepted.
 abbrev chain : Deck
@@ -221,7 +221,7 @@ its_cast one_history = cast_stands (codes "d") 7 fresh_mast (aimed all_of_ten) s
 not_cast : (now : ShelfState) → (CastStands (codes "d") 8 fresh_mast (aimed all_of_ten) shelf now → ⊥) × (CastStands (codes "d") 7 fresh_mast (aimed (record all_of_ten { ended = None })) shelf now → ⊥)
 not_cast now = (
   λ h. let port : ◌≡◌ {A = Option ℕ} (Some 7) (Some 8) = h.aimed in let same : ◌≡◌ {A = ℕ} 7 8 = cc in omega (arith, same),
-  λ h. ended (deck_bytes h.d h.report.history) h.sent,
+  λ h. ended (aired_bytes h.d h.report.history) h.sent,
 )
   where
     ended : (buckets : List (List ℕ)) → ◌≡◌ {A = Option SentBuckets} (Some (record all_of_ten { ended = None })) (Some (record { buckets = buckets; ended = Some (length buckets) })) → ⊥

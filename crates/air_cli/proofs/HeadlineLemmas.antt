@@ -14,7 +14,7 @@ use Rattle.air_model.specs.Tapes.{TapeRead, tape_read}
 use Rattle.air_report.specs.ReadReports.{IsReportOf}
 use Rattle.air_report.specs.declared.status.Status.{Status}
 use Rattle.deck_runs.specs.Casts.{all_sent}
-use Rattle.deck_runs.specs.DeckBytes.{deck_bytes}
+use Rattle.air_sender.specs.AiredBytes.{aired_bytes}
 use Rattle.live_replay.specs.FindingTexts.{findings_text, some_differ}
 use Rattle.air_cli.specs.Answers.{IsSuccess, QuietAnswers}
 use Rattle.air_cli.specs.Audit.{AuditGives, audit_meaning}
@@ -142,7 +142,7 @@ cast_stands deck port mast mast_now before now given (same, (d, spells, made, ca
       unjudged = (refl, refl);
       glances = is.run_is.glances;
       looks = is.run_is.looks;
-      sent = sent_so (all_sent (deck_bytes d run.history)) mast.told mast_now.told is.sent;
+      sent = sent_so (all_sent (aired_bytes d run.history)) mast.told mast_now.told is.sent;
       aimed = is.port;
       printed = prints (cast_output run.history run.glances run.looks) before now went.printed;
       one = λ report legal text. is.told report legal (text ∙ ap (λ (g : ReportAndTape). g.text) (sym is.given_is));

@@ -11,7 +11,8 @@ pub mod InputLemmas
 pub mod PlanMeaningLemmas
 pub mod SplitLemmas
 pub mod ScriptLemmas
-pub mod ScriptAirings
+pub mod PieceAnswers
+pub mod BeamLemmas
 pub mod TuneLemmas
 pub mod SeekLemmas
 pub mod DrillLemmas
@@ -39,6 +40,7 @@ pub mod EarLemmas
 mod ToldExamples
 mod WordExamples
 mod CommandExamples
+mod BeamExamples
 mod SplitExamples
 mod SeekExamples
 mod RunExamples
@@ -47,3 +49,4 @@ mod AnswerExamples
 mod HeadlineExamples
 mod CounterExamples
 mod LimitExamples
+mod CauseExamples

@@ -19,32 +19,32 @@ use Rattle.air_cli.specs.Truths.{AreTrue, IsTrueTape}
 use Rattle.air_cli.proofs.TruthLemmas.{map_numbers}
 
 module _ (d : Deck) (H : List Event) where
-  -- A sound line that is exact under F-Matrix is a right verdict of its reader.
-  right_line : (r : ℕ) (l : SessionLine) → IsSoundLine (values_in d) d.settings.policy H l → (d.settings.policy ≡ FMatrix → IsExactLine d.settings.version H (reader_of d r) l)
+  -- A sound line that is exact under F-Matrix without groups is a right verdict of its reader.
+  right_line : (r : ℕ) (l : SessionLine) → IsSoundLine (values_in d) d.settings.policy H l → (d.settings.policy ≡ FMatrix → d.settings.group ≡ 0 → IsExactLine d.settings.version H (reader_of d r) l)
       → IsRightVerdict d H (line_by r l)
   right_line r l sound exact = record {
     consistent = sound.reads.consistent;
     values = sound.by_ancestors;
     shared = sound.reads.shared;
-    aged = λ f. (exact f).aged;
-    accepted = λ f. (exact f).accepted;
-    aborted = λ f. (exact f).aborted;
+    aged = λ f g. (exact f g).aged;
+    accepted = λ f g. (exact f g).accepted;
+    aborted = λ f g. (exact f g).aborted;
   }
 
   abbrev Right : VerdictLine → Type 0
   Right line = IsRightVerdict d H line
 
   right_session : (r : ℕ) (heard : List (Option Bucket)) → IsTrueSession d H r heard
-      → All (λ l. Right (line_by r l)) (session_of (by_history (scheme_in d) (values_in d) H) d r heard).lines
+      → All (λ l. Right (line_by r l)) (session_of (by_history (scheme_in d) (length d.items) (values_in d) H) d r heard).lines
   right_session r heard is = subst (λ (s : State). All (λ l. Right (line_by r l)) s.lines) is.same
-      (λ k e below. right_line r (get_or its_lines k e) (is.sound k e below) (λ f. is.exact f k e below))
+      (λ k e below. right_line r (get_or its_lines k e) (is.sound k e below) (λ f g. is.exact f g k e below))
     where
       its_lines : List SessionLine
       its_lines = (session_of (by_entries (scheme_in d)) d r heard).lines
 
   module _ (heard : ℕ → List (List ℕ)) where
     abbrev its_session : ℕ → State
-    its_session r = session_of (by_history (scheme_in d) (values_in d) H) d r (map bucket_in (heard r))
+    its_session r = session_of (by_history (scheme_in d) (length d.items) (values_in d) H) d r (map bucket_in (heard r))
 
     lines_right : (a n : ℕ) → ((r : ℕ) → a ≤ r → r < a + n → IsTrueSession d H r (map bucket_in (heard r)))
         → All Right (flat_map (λ p. map (line_by p.0) p.1.lines) (enumerate_from a (map its_session (range_with_len a n))))
@@ -55,8 +55,8 @@ module _ (d : Deck) (H : List Event) where
         (lines_right (a + 1) n (λ r low below. are r (omega arith) (omega arith)))
 
     -- A report with the lines that the history decides has right verdicts, if the sessions are true.
-    pub judged_report : (report : Report) → report.verdicts ≡ verdict_lines (sessions_over (by_history (scheme_in d) (values_in d) H) d heard)
-        → report.counts ≡ counts_lines (sessions_over (by_history (scheme_in d) (values_in d) H) d heard) → AreTrue d H heard → IsJudgedReport d H heard report
+    pub judged_report : (report : Report) → report.verdicts ≡ verdict_lines (sessions_over (by_history (scheme_in d) (length d.items) (values_in d) H) d heard)
+        → report.counts ≡ counts_lines (sessions_over (by_history (scheme_in d) (length d.items) (values_in d) H) d heard) → AreTrue d H heard → IsJudgedReport d H heard report
     judged_report report verdicts counts are = record {
       verdicts = verdicts;
       counts = counts;
@@ -64,7 +64,7 @@ module _ (d : Deck) (H : List Event) where
     }
 
     -- By the entries the readers decide what the history does.
-    same_sessions : AreTrue d H heard → sessions_over (by_entries (scheme_in d)) d heard ≡ sessions_over (by_history (scheme_in d) (values_in d) H) d heard
+    same_sessions : AreTrue d H heard → sessions_over (by_entries (scheme_in d)) d heard ≡ sessions_over (by_history (scheme_in d) (length d.items) (values_in d) H) d heard
     same_sessions are = map_numbers (λ r. session_of (by_entries (scheme_in d)) d r (map bucket_in (heard r))) its_session 0 (length d.readers) (λ r low below. (are r (omega arith)).same)
 
     pub heard_report : (report : Report) → report.verdicts ≡ verdict_lines (sessions_over (by_entries (scheme_in d)) d heard)

@@ -34,7 +34,7 @@ use Rattle.air_model.specs.Runs.{IsRun, Run}
 use Rattle.air_model.specs.Sessions.{abort, accept_if_whole, copy_of, count_copied, count_dozed, count_foreign, count_late, count_opened, count_refused, decide, drop_copy, end, end_aged, end_query, hear, hear_all, hear_read, hold, is_unusable, judge_read, line_of, next_attempt, next_query, offer, open_bucket, query_of, session, settle, turn, turn_with, wanted, with_line}
 use Rattle.air_report.specs.declared.status.Status.TheVariants as status
 use Rattle.deck_runs.specs.Casts.{IsCastBeginning, all_sent}
-use Rattle.deck_runs.specs.DeckBytes.{deck_bytes}
+use Rattle.air_sender.specs.AiredBytes.{aired_bytes}
 use Rattle.deck_runs.specs.RunTapes.{run_tape_len}
 use Rattle.deck_runs.specs.RunTruths.{IsTrueRun}
 use Rattle.deck_runs.proofs.HeardRunLemmas.{OneHistoryLaw, true_run}
@@ -124,7 +124,7 @@ aimed sent = record { told = Some sent; faults = 0; port = Some 7 }
 
 -- All buckets of the run and the end.
 abbrev pub all_of_ten : SentBuckets
-all_of_ten = all_sent (deck_bytes small ten)
+all_of_ten = all_sent (aired_bytes small ten)
 
 no_part : IsCastBeginning small 0 (Some nothing_sent) (Some nothing_sent)
 no_part = record { history = ten; whole = is_whole; within = omega arith; sent = refl }
@@ -150,7 +150,7 @@ not_cast = (
 )
   where
     ended : Some (record all_of_ten { ended = None }) ≡ Some all_of_ten → ⊥
-    ended e = let same : record all_of_ten { ended = None } ≡ all_of_ten = cc in let end : ◌≡◌ {A = Option ℕ} None (Some (length (deck_bytes small ten))) = ap (λ (s : SentBuckets). s.ended) same in cc
+    ended e = let same : record all_of_ten { ended = None } ≡ all_of_ten = cc in let end : ◌≡◌ {A = Option ℕ} None (Some (length (aired_bytes small ten))) = ap (λ (s : SentBuckets). s.ended) same in cc
 
 pub cast_gives : OneHistoryLaw → CastGives (codes "d") 7 fresh_mast (aimed all_of_ten) shelf (cast_given ten_run)
 unfolding CastGives

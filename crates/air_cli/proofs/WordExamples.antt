@@ -9,7 +9,7 @@ use Rattle.air_cli.specs.Commands.{quiet_meaning}
 use Rattle.air_cli.specs.ReportsAndTapes.{ReportAndTape, given_status}
 use Rattle.air_cli.specs.Meanings.{no_command}
 use Rattle.air_cli.specs.Run.{run_meaning}
-use Rattle.air_cli.specs.Words.{AsksAudit, AsksCast, AsksDrill, AsksListen, AsksPlan, AsksRun, AsksScript, AsksSeek, AsksSplit, AsksTune, asked_drill, asked_of, asked_of_numbers, asked_of_one, asked_of_three, asked_of_two, asked_seek, item_of, place_of, port_of}
+use Rattle.air_cli.specs.Words.{AsksAudit, AsksBeam, AsksCast, AsksDrill, AsksListen, AsksPlan, AsksRun, AsksScript, AsksSeek, AsksSplit, AsksTune, asked_drill, asked_item, asked_of, asked_of_numbers, asked_of_one, asked_of_three, asked_of_two, asked_place, asked_seek, port_of}
 
 -- A shelf that tells nothing, and what words that are no command would give.
 abbrev nothing : ShelfState
@@ -25,6 +25,8 @@ pub record Words : Type 0 where
   capital : asked_of_one (codes "Plan") (codes "d") ≡ None
   script_of_two : asked_of_two (codes "script") (codes "d") (codes "t") ≡ Some (AsksScript (codes "d") (Some (codes "t")))
   tune : asked_of_two (codes "tune") (codes "d") (codes "t") ≡ Some (AsksTune (codes "d") (codes "t"))
+  beam : asked_of_two (codes "beam") (codes "d") (codes "t") ≡ Some (AsksBeam (codes "d") (codes "t"))
+  no_beam : asked_of_two (codes "Beam") (codes "d") (codes "t") ≡ None
   audit : asked_of_two (codes "audit") (codes "d") (codes "r") ≡ Some (AsksAudit (codes "d") (codes "r"))
   no_name : asked_of_two (codes "Run") (codes "d") (codes "t") ≡ None
   -- A drill has a size from 1 to 100, and a seed of 64 bits.
@@ -49,12 +51,12 @@ pub record Words : Type 0 where
   sought : asked_seek (codes "t") (Some 1) (Some 2) ≡ Some (AsksSeek (codes "t") 1 2)
   no_item_sought : asked_seek (codes "t") None (Some 2) ≡ None
   no_place_sought : asked_seek (codes "t") (Some 1) None ≡ None
-  last_item : item_of (Some 65534) ≡ Some 65534
-  no_item : item_of (Some 65535) ≡ None
-  unspelled_item : item_of None ≡ None
-  last_place : place_of (Some 4294967295) ≡ Some 4294967295
-  no_place : place_of (Some 4294967296) ≡ None
-  unspelled_place : place_of None ≡ None
+  last_item : asked_item (Some 65534) ≡ Some 65534
+  no_item : asked_item (Some 65535) ≡ None
+  unspelled_item : asked_item None ≡ None
+  last_place : asked_place (Some 4294967295) ≡ Some 4294967295
+  no_place : asked_place (Some 4294967296) ≡ None
+  unspelled_place : asked_place None ≡ None
   first_port : port_of (Some 1) ≡ Some 1
   last_port : port_of (Some 65535) ≡ Some 65535
   no_port : port_of (Some 65536) ≡ None
@@ -85,6 +87,8 @@ words = record {
   capital = refl;
   script_of_two = refl;
   tune = refl;
+  beam = refl;
+  no_beam = refl;
   audit = refl;
   no_name = refl;
   drill = refl;

@@ -7,7 +7,7 @@ use Rattle.air_devices.specs.Shelves.{ShelfState}
 use Rattle.air_history.specs.declared.histories.Event.{Event}
 use Rattle.air_model.specs.Decks.{Deck, IsDeck, IsWhole}
 use Rattle.air_model.specs.Outputs.{cast_output}
-use Rattle.deck_runs.specs.DeckBytes.{deck_bytes}
+use Rattle.air_sender.specs.AiredBytes.{aired_bytes}
 use Rattle.air_report.specs.declared.status.Status.{Status}
 use Rattle.air_report.specs.declared.status.Status.TheVariants as status
 use Rattle.deck_runs.specs.RunTruths.{IsTrueRun, TellsHistory}
@@ -24,7 +24,7 @@ pub record IsCast (d : Deck) (to : ℕ) (before now : MastState) (given : Report
   pub true_is : IsTrueRun d run
   pub given_is : given ≡ record { text = cast_output run.history run.glances run.looks; tape = []; differs = false }
   pub told : TellsHistory d run.history given.text
-  pub sent : Changes (λ _. all_sent (deck_bytes d run.history)) before.told now.told
+  pub sent : Changes (λ _. all_sent (aired_bytes d run.history)) before.told now.told
   pub calm : now.faults ≡ before.faults
   pub port : now.port ≡ Some to
 
@@ -37,7 +37,7 @@ pub record IsBrokenCast (d : Deck) (to at : ℕ) (before now : MastState) : Type
 -- The first buckets of a whole history of the deck were sent to the port, maybe none or all, and after all maybe the end.
 pub record HasSent (d : Deck) (to : ℕ) (before now : MastState) : Type 0 where
   pub sent : ((count : ℕ) × IsCastBeginning d count before.told now.told)
-      ⊎ ((H : List Event) × IsWhole d H × Changes (λ _. all_sent (deck_bytes d H)) before.told now.told)
+      ⊎ ((H : List Event) × IsWhole d H × Changes (λ _. all_sent (aired_bytes d H)) before.told now.told)
   pub later : before.faults ≤ now.faults
   pub port : now.port ≡ Some to
 

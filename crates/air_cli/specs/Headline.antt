@@ -2,7 +2,7 @@
 --
 -- `WhereTold x P` is P of what a device tells, and says nothing if the device tells nothing. The devices in memory tell everything: over them each
 -- field is exact. A real file, terminal or socket tells nothing: over it the fields still say that there are such a deck, history and report.
-use Rattle.std.specs.Prelude.{◌≡◌, ◌↔◌, ℕ, false, List, [], ◌++◌, map, take, get_or, All, IfSome, IsTrue, Option, Some, None, ⊤}
+use Rattle.std.specs.Prelude.{◌≡◌, ◌↔◌, ℕ, false, List, [], ◌++◌, length, map, take, get_or, All, IfSome, IsTrue, Option, Some, None, ⊤}
 use Rattle.air_base.specs.declared.verdicts.Policy.TheVariants.{FMatrix}
 use Rattle.air_base.specs.declared.verdicts.VerdictKind.TheVariants.{Accept}
 use Rattle.air_devices.specs.Ears.{EarState}
@@ -30,7 +30,7 @@ use Rattle.air_report.specs.declared.reading.ReadReport.{ReadReport}
 use Rattle.air_report.specs.declared.status.Status.{Status}
 use Rattle.air_report.specs.declared.status.Status.TheVariants as status
 use Rattle.deck_runs.specs.Casts.{all_sent}
-use Rattle.deck_runs.specs.DeckBytes.{deck_bytes}
+use Rattle.air_sender.specs.AiredBytes.{aired_bytes}
 use Rattle.deck_runs.specs.RunTruths.{TellsHistory}
 use Rattle.live_replay.specs.Audits.{findings}
 use Rattle.live_replay.specs.FindingLaws.{GivesLook, GivesVerdict}
@@ -61,23 +61,23 @@ abbrev pub asked_query : Deck → VerdictLine → List ℕ
 asked_query d line = get_or (get_or d.queries line.reader []) line.verdict.query []
 
 -- A verdict is right by a history. Its reads are consistent, they have the values that the updates from which they descend leave when these run
--- alone, and they share the cycle that the policy gives them. Under F-Matrix it is aged if and only if the reads on which it was decided are too far
--- apart for the deck's version. Else it is an accept if and only if they are all of its query and are consistent, and an abort if and only if they
--- aren't consistent.
+-- alone, and they share the cycle that the policy gives them. Under F-Matrix without groups it is aged if and only if the reads on which it was
+-- decided are too far apart for the deck's version. Else it is an accept if and only if they are all of its query and are consistent, and an abort
+-- if and only if they aren't consistent.
 pub record IsRightVerdict (d : Deck) (H : List Event) (line : VerdictLine) : Type 0 where
   pub consistent : IsConsistent H (places_of line.reads)
   pub values : All BasesRead H → All (λ r. r.value ≡ table (values_of (values_in d)) (alone H (places_of line.reads)) r.item) line.reads
   pub shared : SharesItsCycle d.settings.policy H (places_of line.reads)
-  pub aged : d.settings.policy ≡ FMatrix → IsAged line.verdict.kind ↔ IsTrue (are_far d.settings.version (judged_on line))
-  pub accepted : d.settings.policy ≡ FMatrix → (line.verdict.kind ≡ Accept)
+  pub aged : d.settings.policy ≡ FMatrix → d.settings.group ≡ 0 → IsAged line.verdict.kind ↔ IsTrue (are_far d.settings.version (judged_on line))
+  pub accepted : d.settings.policy ≡ FMatrix → d.settings.group ≡ 0 → (line.verdict.kind ≡ Accept)
       ↔ ((are_far d.settings.version (judged_on line) ≡ false) × (map (λ r. r.item) (judged_on line) ≡ asked_query d line) × IsConsistent H (judged_on line))
-  pub aborted : d.settings.policy ≡ FMatrix → IsAbort line.verdict.kind
+  pub aborted : d.settings.policy ≡ FMatrix → d.settings.group ≡ 0 → IsAbort line.verdict.kind
       ↔ ((are_far d.settings.version (judged_on line) ≡ false) × (IsConsistent H (judged_on line) → ⊥))
 
 -- A report has the verdicts and counts that a history decides for the deck's readers, each over what it heard, and each verdict is right.
 pub record IsJudgedReport (d : Deck) (H : List Event) (heard : ℕ → List (List ℕ)) (report : Report) : Type 0 where
-  pub verdicts : report.verdicts ≡ verdict_lines (sessions_over (by_history (scheme_in d) (values_in d) H) d heard)
-  pub counts : report.counts ≡ counts_lines (sessions_over (by_history (scheme_in d) (values_in d) H) d heard)
+  pub verdicts : report.verdicts ≡ verdict_lines (sessions_over (by_history (scheme_in d) (length d.items) (values_in d) H) d heard)
+  pub counts : report.counts ≡ counts_lines (sessions_over (by_history (scheme_in d) (length d.items) (values_in d) H) d heard)
   pub right : All (IsRightVerdict d H) report.verdicts
 
 -- A report has what the deck's readers decide over what all of them heard, by the entries that came with it. Each history that aired the part of it
@@ -145,7 +145,7 @@ pub record CastStands (deck : List ℕ) (port : ℕ) (mast mast_now : MastState)
   pub unjudged : (report.verdicts ≡ []) × (report.counts ≡ [])
   pub glances : AreGlances d report.history report.glances
   pub looks : AreLooks d report.history report.looks
-  pub sent : WhereTold mast.told (λ old. mast_now.told ≡ Some (all_sent (deck_bytes d report.history)))
+  pub sent : WhereTold mast.told (λ old. mast_now.told ≡ Some (all_sent (aired_bytes d report.history)))
   pub aimed : mast_now.port ≡ Some port
   pub printed : NowPrints (report_text report) before now
   pub one : TellsHistory d report.history (report_text report)
@@ -178,7 +178,7 @@ pub record AuditStands (deck report : List ℕ) (before now : ShelfState) (s : S
 
 -- ---- calls
 
--- What holds if `air_quiet` succeeded with this status. For `plan`, `split`, `seek` and `drill`, and for words that are no command, the clause
+-- What holds if `air_quiet` succeeded with this status. For `plan`, `split`, `beam`, `seek` and `drill`, and for words that are no command, the clause
 -- `answers` says everything.
 abbrev pub QuietHeadline : Option Request → ShelfState → ShelfState → Status → Type 0
 QuietHeadline (Some (AsksScript deck tape)) before now s = ScriptStands deck tape before now

@@ -8,6 +8,7 @@ pub mod Plan
 pub mod Split
 pub mod Script
 pub mod Tune
+pub mod Beam
 pub mod Seek
 pub mod Drill
 pub mod Audit

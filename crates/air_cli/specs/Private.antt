@@ -3,7 +3,6 @@ pub mod BeforeDelivery
 pub mod Endings
 pub mod Airing
 pub mod OutputPieces
-pub mod Scripting
 pub mod Pieces
 pub mod EarSteps
 pub mod GivenTexts

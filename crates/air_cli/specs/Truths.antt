@@ -10,7 +10,7 @@ use Rattle.air_model.specs.Outputs.{ether_of}
 
 -- The sessions of all readers of the deck, over what each hears, are true of the history: by the entries they are what the history decides. In each
 -- line, under every policy, the reads are consistent and have the values that their ancestors alone leave. Under Datacycle all are of the newest
--- cycle read, and under R-Matrix of the current one. Under F-Matrix each verdict is exact.
+-- cycle read, and under R-Matrix of the current one. Under F-Matrix without groups each verdict is exact.
 abbrev pub AreTrue : Deck → List Event → (ℕ → List (List ℕ)) → Type 0
 AreTrue d H heard = (r : ℕ) → r < length d.readers → IsTrueSession d H r (map bucket_in (heard r))
 

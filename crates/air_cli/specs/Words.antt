@@ -15,6 +15,7 @@ pub data Request : Type 0 where
   AsksSplit : List ℕ → Request
   AsksScript : List ℕ → Option (List ℕ) → Request
   AsksTune : List ℕ → List ℕ → Request
+  AsksBeam : List ℕ → List ℕ → Request
   AsksSeek : List ℕ → ℕ → ℕ → Request
   AsksDrill : ℕ → ℕ → Request
   AsksAudit : List ℕ → List ℕ → Request
@@ -37,15 +38,15 @@ abbrev pub port_of : Option ℕ → Option ℕ
 port_of (Some n) = if nat_le 1 n && nat_le n LAST_PORT then Some n else None
 port_of None = None
 
--- The item of a number, if it is one: up to 65,534.
-abbrev pub item_of : Option ℕ → Option ℕ
-item_of (Some n) = if nat_le n LAST_ITEM then Some n else None
-item_of None = None
+-- The item that a number asks for: one up to 65,534.
+abbrev pub asked_item : Option ℕ → Option ℕ
+asked_item (Some n) = if nat_le n LAST_ITEM then Some n else None
+asked_item None = None
 
--- The place of a number, if it is one: up to 4,294,967,295.
-abbrev pub place_of : Option ℕ → Option ℕ
-place_of (Some n) = if nat_le n LAST_PLACE then Some n else None
-place_of None = None
+-- The place that a number asks for: one up to 4,294,967,295.
+abbrev pub asked_place : Option ℕ → Option ℕ
+asked_place (Some n) = if nat_le n LAST_PLACE then Some n else None
+asked_place None = None
 
 -- What a tape, an item and a place ask for: a search, if there are an item and a place.
 abbrev pub asked_seek : List ℕ → Option ℕ → Option ℕ → Option Request
@@ -73,6 +74,7 @@ abbrev pub asked_of_two : List ℕ → List ℕ → List ℕ → Option Request
 asked_of_two name first second =
     if pointwise nat_eq name (codes "script") then Some (AsksScript first (Some second))
     else if pointwise nat_eq name (codes "tune") then Some (AsksTune first second)
+    else if pointwise nat_eq name (codes "beam") then Some (AsksBeam first second)
     else if pointwise nat_eq name (codes "audit") then Some (AsksAudit first second)
     else if pointwise nat_eq name (codes "run") then Some (AsksRun first second)
     else asked_of_numbers name first second
@@ -80,7 +82,7 @@ asked_of_two name first second =
 -- What a command's name and three words more ask for.
 abbrev pub asked_of_three : List ℕ → List ℕ → List ℕ → List ℕ → Option Request
 asked_of_three name first second third =
-    if pointwise nat_eq name (codes "seek") then asked_seek first (item_of (number_of second)) (place_of (number_of third))
+    if pointwise nat_eq name (codes "seek") then asked_seek first (asked_item (number_of second)) (asked_place (number_of third))
     else None
 
 -- What the words ask for; `None` if they are no command.

@@ -1,6 +1,7 @@
 //! The commands, a file for each. A command makes what it prints and writes, or gives the status that refuses it.
 
 pub(crate) mod audit;
+pub(crate) mod beam;
 pub(crate) mod cast;
 pub(crate) mod drill;
 pub(crate) mod hearings;

@@ -18,7 +18,7 @@ pub mod words;
 pub use air_report::Status;
 pub use commands::hearings::{HearFault, ear_sessions};
 pub use commands::run_on_air::run_on_air;
-pub use deck_runs::{ConductFault, conductor_job, monitor_job, updater_job};
+pub use deck_runs::{ConductFault, conductor_job, group_conductor_job, monitor_job, updater_job};
 pub use files::decks::read_deck_file;
 pub use files::plans::plan_deck;
 pub use files::read_bytes;

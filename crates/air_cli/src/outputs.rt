@@ -5,6 +5,7 @@ ghost use Rattle.air_devices.specs.Counts.{NoCountFalls};
 ghost use Rattle.air_cli.specs.Deliveries.{Delivers, KeepsButDelivered};
 ghost use Rattle.air_cli.specs.Private.OutputPieces.{IsCutOff, IsWritten};
 
+pub(crate) mod lines;
 pub(crate) mod pieces;
 pub(crate) mod refusals;
 pub(crate) mod report_and_tape;

@@ -1,6 +1,7 @@
 //! The top call for the commands that need no waiting.
 //!
-//! All that a command prints and writes is made before anything is printed or written, except that `script` writes its tape while it airs it. The
+//! All that a command prints and writes is made before anything is printed or written, except that `script` and `beam`
+//! write their tapes while they air them. The
 //! contract is one definition by cases of the status: its cause, what was printed and written, and what is left.
 
 ghost use Rattle.std.specs.Prelude.{◌≤◌, map, string_bytes, Some};
@@ -18,6 +19,7 @@ ghost use Rattle.air_cli.specs.Words.{HasSize, asked_of};
 ghost use Rattle.item_catalog.specs.declared.deck.drill.TheConstants.{MOST_DRILL_SIZE};
 
 use crate::commands::audit::audit;
+use crate::commands::beam::beam;
 use crate::commands::drill::drill;
 use crate::commands::plan::plan;
 use crate::commands::script::script;
@@ -32,7 +34,7 @@ use air_report::Status;
 use std::alloc::Global;
 use std::thread::Threads;
 
-/// Runs what the words ask for: `plan DECK`, `split DECK`, `script DECK`, `script DECK TAPE`, `tune DECK TAPE`, `seek TAPE ITEM FROM`,
+/// Runs what the words ask for: `plan DECK`, `split DECK`, `script DECK`, `script DECK TAPE`, `tune DECK TAPE`, `beam DECK TAPE`, `seek TAPE ITEM FROM`,
 /// `drill SEED SIZE` or `audit DECK REPORT`.
 pub fn air_quiet<T: Threads + Sync, S: Shelf>(
     threads: &T,
@@ -67,6 +69,7 @@ fn run<T: Threads + Sync, S: Shelf>(
         Command::Split { deck } => give_split(alloc, shelf, deck),
         Command::Script { deck, tape } => script(threads, alloc, shelf, deck, *tape),
         Command::Tune { deck, tape } => give_tuning(threads, alloc, shelf, deck, tape),
+        Command::Beam { deck, tape } => beam(alloc, shelf, deck, tape),
         Command::Seek { tape, item, from } => {
             give_search(threads, alloc, shelf, tape, *item, *from)
         }

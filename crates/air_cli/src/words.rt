@@ -7,7 +7,7 @@ ghost use Rattle.air_cli.specs.Commands.{asked_by};
 pub(crate) mod places;
 pub(crate) mod ports;
 
-use crate::words::places::{item_of, place_of};
+use crate::words::places::{asked_item, asked_place};
 use crate::words::ports::port_of;
 use air_base::read_u64;
 use item_catalog::MOST_DRILL_SIZE;
@@ -20,6 +20,7 @@ pub const HELP: &str = "airdisk: data on air, proved
   airdisk script DECK          run the script of a deck, and print the report of its readers
   airdisk script DECK TAPE     the same, and write what was aired to a tape
   airdisk tune DECK TAPE       let the readers of a deck hear a tape, and print their report
+  airdisk beam DECK TAPE       run the script of a deck, write it to an indexed tape, and print how many records it has
   airdisk seek TAPE ITEM FROM  find an item on an indexed tape from a record on, and print where it is
   airdisk drill SEED SIZE      make a deck of size 1 to 100, run its script, and print what came of it
   airdisk audit DECK REPORT    replay a report by its own history, and print which of its lines agree
@@ -54,6 +55,11 @@ pub enum Command<'a> {
     },
     /// To let a deck's readers hear a tape.
     Tune {
+        deck: &'a str,
+        tape: &'a str,
+    },
+    /// To write the script of a deck to an indexed tape.
+    Beam {
         deck: &'a str,
         tape: &'a str,
     },
@@ -138,6 +144,11 @@ fn command_of_two<'a>(name: &str, first: &'a str, second: &'a str) -> Option<Com
             deck: first,
             tape: second,
         })
+    } else if name == "beam" {
+        Some(Command::Beam {
+            deck: first,
+            tape: second,
+        })
     } else if name == "audit" {
         Some(Command::Audit {
             deck: first,
@@ -186,7 +197,7 @@ fn command_of_three<'a>(
     ensures sized { IfSome result (λ c. HasSize (asked_by c)) }
 {
     if name == "seek" {
-        seek_of(first, item_of(second), place_of(third))
+        seek_of(first, asked_item(second), asked_place(third))
     } else {
         None
     }

@@ -28,6 +28,11 @@ not_rose = (same, fell, below_last)
     below_last (inl less) = omega arith
     below_last (inr (last, stays)) = omega (arith, last)
 
+-- The last value doesn't fall either.
+not_fallen_from_last : Rose (2 ^ 64 - 1) 3 → ⊥
+not_fallen_from_last (inl less) = omega arith
+not_fallen_from_last (inr (last, stays)) = omega (arith, stays)
+
 -- Counts of which only that of prints differs.
 abbrev printed_once : Faults
 printed_once = record (one_count 3) { printing = 4 }
@@ -46,6 +51,19 @@ no_fall = record { reading = λ n. omega arith; writing = λ n. omega arith; pri
 
 falls : NoCountFalls printed_once (one_count 3) → ⊥
 falls h = let least : 4 ≤ 3 = h.printing in omega arith
+
+-- Counts of which only those of reads differ, or only those of writes.
+abbrev read_once : Faults
+read_once = record (one_count 3) { reading = λ _. 4 }
+
+abbrev written_once : Faults
+written_once = record (one_count 3) { writing = λ _. 4 }
+
+not_kept_by_name : (KeepsCounts (one_count 3) read_once → ⊥) × (KeepsCounts (one_count 3) written_once → ⊥)
+not_kept_by_name = (λ h. let e : 4 ≡ 3 = h.reading [] in omega (arith, e), λ h. let e : 4 ≡ 3 = h.writing [] in omega (arith, e))
+
+falls_by_name : (NoCountFalls read_once (one_count 3) → ⊥) × (NoCountFalls written_once (one_count 3) → ⊥)
+falls_by_name = (λ h. let least : 4 ≤ 3 = h.reading [] in omega arith, λ h. let least : 4 ≤ 3 = h.writing [] in omega arith)
 
 -- ---- what is told
 
@@ -78,6 +96,11 @@ with_file bytes left = record nothing_told { file = λ _. Some bytes; left = λ 
 
 too_large : IsTooLarge 3 (codes "deck") (with_file (codes "abcde") (codes "abcde")) (with_file (codes "abcde") (codes "e"))
 too_large = (omega arith, refl)
+
+-- What counts is the file as it was before it was read.
+too_large_before : IsTooLarge 3 (codes "deck") (with_file (codes "abcde") (codes "abcde")) (record nothing_told { left = λ _. Some (codes "e") })
+    × (IsTooLarge 3 (codes "deck") (with_file (codes "abc") (codes "abc")) (with_file (codes "abcde") (codes "e")) → ⊥)
+too_large_before = ((omega arith, refl), λ h. let more : 3 < 3 = h.0 in omega arith)
 
 -- A file of exactly the most bytes isn't too large; a file that is too large is read one byte past the most and no further.
 not_too_large : (IsTooLarge 3 (codes "deck") (with_file (codes "abc") (codes "abc")) (with_file (codes "abc") []) → ⊥)

@@ -33,7 +33,7 @@ pub trait Mast {
         ensures port { (state self.new).port ≡ (state self.old).port }
         ensures cause { TellsFailure (state self.old).faults (state self.new).faults result };
 
-    /// Sends the end mark.
+    /// Sends the end mark. Sent again, it changes nothing of what the mast tells.
     fn finish(&mut self) -> Result<(), Failed>
         ensures ended { OnOk result (Changes with_end (state self.old).told (state self.new).told) }
         ensures refused { OnErr result ((state self.new).told ≡ (state self.old).told) }

@@ -1,16 +1,19 @@
 -- Reads that a policy accepted one after another are consistent, and share the cycle that the policy gives them.
-use Rattle.std.proofs.Common.{◌≡◌, ◌∙◌, ◌⊎◌, ℕ, ◌≤◌, Bool, true, false, cond, not, ◌&&◌, List, [], ◌∷◌, ◌++◌, get_or, All, None, refl, sym, ap, subst, inl, inr, arith, zero, suc, ◌<◌, Option, Some, take, length, add-one}
+use Rattle.std.proofs.Common.{◌≡◌, ◌∙◌, ◌⊎◌, ℕ, ◌≤◌, Bool, true, false, cond, not, ◌&&◌, nat_lt, List, [], ◌∷◌, ◌++◌, get_or, All, None, refl, sym, ap, subst, inl, inr, arith, zero, suc, ◌<◌, Option, Some, take, length, add-one}
 use Rattle.std.specs.List.{list_all}
-use Rattle.std.proofs.lemmas.Bool.{ltb-false, not-true, not_from_false, both_ways, and_parts, cases_lt, false≢true, and_from}
+use Rattle.std.proofs.lemmas.Bool.{ltb-true, ltb-false, not-true, not_from_false, both_ways, and_parts, cases_lt, false≢true, and_from}
 use Rattle.std.proofs.lemmas.List.Elements.{All-head, All-tail, All-cons, All-push, All-nil}
 use Rattle.air_base.specs.declared.verdicts.Policy.{Policy}
 use Rattle.air_base.specs.declared.verdicts.Policy.TheVariants.{FMatrix, Datacycle, RMatrix}
 use Rattle.air_history.specs.declared.histories.Event.{Event}
+use Rattle.air_history.specs.Columns.{Scheme}
 use Rattle.air_history.specs.Reads.{ReadAt, IsRead, stale, newest_cycle, first_cycle, last_cycle}
 use Rattle.air_history.specs.Consistency.{IsConsistent, consistent}
 use Rattle.air_history.specs.ConsistencyLaws.{SharesCycle}
-use Rattle.air_history.specs.Clashes.{is_late, clash_by_history, IsCurrent}
+use Rattle.air_history.specs.Clashes.{is_late, clash_by_history, clash_of, group_clash, named_clash, IsCurrent}
 use Rattle.air_history.specs.ClashLaws.{Accepts, IsSound, passes, cycle_in, current_cycle}
+use Rattle.air_history.proofs.GroupLemmas.{free_by_groups}
+use Rattle.air_history.proofs.NamedLemmas.{none_named, named_none}
 use Rattle.air_history.proofs.StaleLemmas.{stale_self, same_origin_says}
 use Rattle.air_history.proofs.PolicyLemmas.{stays_consistent, stays_current, takes, stays_between, one_cycle}
 use Rattle.std.specs.Prelude.{is_none}
@@ -100,26 +103,43 @@ none_if : (o : Option Clash) → is_none o ≡ true → o ≡ None
 none_if None e = refl
 none_if (Some c) e = absurd (false≢true e)
 
+f_matrix_free : (H : List Event) (R : List ReadAt) (x : ReadAt) → All (λ r. not (consistent H (r ∷ x ∷ [])) ≡ false) R → clash_by_history FMatrix H R x ≡ None
+unfolding clash_by_history
+f_matrix_free H R x free = named_none (λ r. not (consistent H (r ∷ x ∷ []))) R free
+
+-- Where nothing clashes under a scheme, nothing does by its policy: reads that don't clash by groups are consistent.
+pub policy_free : (scheme : Scheme) (n : ℕ) (H : List Event) (R : List ReadAt) (x : ReadAt) → clash_of scheme n H R x ≡ None → clash_by_history scheme.policy H R x ≡ None
+policy_free scheme n H R x free = by scheme.policy scheme.group free
+  where
+    by_groups : (g : ℕ) (b : Bool) → nat_lt 0 g ≡ b → cond b (named_clash (λ r. group_clash H g n r x) R) (clash_by_history FMatrix H R x) ≡ None → clash_by_history FMatrix H R x ≡ None
+    by_groups g true some none = f_matrix_free H R x (λ k d l. free_by_groups H g n (get_or R k d) x (ltb-true 0 g some) (none_named (λ r. group_clash H g n r x) R none k d l))
+    by_groups g false some none = none
+
+    by : (p : Policy) (g : ℕ) → clash_of (record { policy = p; group = g }) n H R x ≡ None → clash_by_history p H R x ≡ None
+    by FMatrix g none = by_groups g (nat_lt 0 g) refl none
+    by Datacycle g none = none
+    by RMatrix g none = none
+
 -- What it means that a read passes.
-pub passes_says : (p : Policy) (H : List Event) (R : List ReadAt) (x : ReadAt) → passes p H R x ≡ true → (is_late p R x ≡ false) × (clash_by_history p H R x ≡ None)
+pub passes_says : (scheme : Scheme) (n : ℕ) (H : List Event) (R : List ReadAt) (x : ReadAt) → passes scheme n H R x ≡ true → (is_late scheme.policy R x ≡ false) × (clash_of scheme n H R x ≡ None)
 unfolding passes
-passes_says p H R x e = let both = and_parts _ _ e in (not-true _ both.0, none_if _ both.1)
+passes_says scheme n H R x e = let both = and_parts _ _ e in (not-true _ both.0, none_if _ both.1)
 
-pub passes_from : (p : Policy) (H : List Event) (R : List ReadAt) (x : ReadAt) → is_late p R x ≡ false → clash_by_history p H R x ≡ None → passes p H R x ≡ true
+pub passes_from : (scheme : Scheme) (n : ℕ) (H : List Event) (R : List ReadAt) (x : ReadAt) → is_late scheme.policy R x ≡ false → clash_of scheme n H R x ≡ None → passes scheme n H R x ≡ true
 unfolding passes
-passes_from p H R x late none = and_from _ _ (not_from_false _ late) (ap is_none none)
+passes_from scheme n H R x late none = and_from _ _ (not_from_false _ late) (ap is_none none)
 
-pub accepts_none : (p : Policy) (H : List Event) → Accepts p H []
-accepts_none p H k d l = absurd (omega arith)
+pub accepts_none : (scheme : Scheme) (n : ℕ) (H : List Event) → Accepts scheme n H []
+accepts_none scheme n H k d l = absurd (omega arith)
 
-pub accepts_push : (p : Policy) (H : List Event) (R : List ReadAt) (x : ReadAt) → Accepts p H R → is_late p R x ≡ false → clash_by_history p H R x ≡ None →
-    Accepts p H (R ++ x ∷ [])
-accepts_push p H R x accepts late none k d l = elim (cases_lt k (length R)) as (λ _. passes p H (take k (R ++ x ∷ [])) (get_or (R ++ x ∷ []) k d) ≡ true) [
-  | inl low ↦ ap (λ S. passes p H S (get_or (R ++ x ∷ []) k d)) (take-append-le k R (x ∷ []) (omega arith))
-      ∙ ap (passes p H (take k R)) (get_or_append_left R (x ∷ []) d k low) ∙ accepts k d low
+pub accepts_push : (scheme : Scheme) (n : ℕ) (H : List Event) (R : List ReadAt) (x : ReadAt) → Accepts scheme n H R → is_late scheme.policy R x ≡ false → clash_of scheme n H R x ≡ None →
+    Accepts scheme n H (R ++ x ∷ [])
+accepts_push scheme n H R x accepts late none k d l = elim (cases_lt k (length R)) as (λ _. passes scheme n H (take k (R ++ x ∷ [])) (get_or (R ++ x ∷ []) k d) ≡ true) [
+  | inl low ↦ ap (λ S. passes scheme n H S (get_or (R ++ x ∷ []) k d)) (take-append-le k R (x ∷ []) (omega arith))
+      ∙ ap (passes scheme n H (take k R)) (get_or_append_left R (x ∷ []) d k low) ∙ accepts k d low
   | inr high ↦ (let same : k ≡ length R = omega (arith, length_push R x) in
-      ap (λ S. passes p H S (get_or (R ++ x ∷ []) k d)) (ap (λ m. take m (R ++ x ∷ [])) same ∙ take-append-le (length R) R (x ∷ []) (omega arith) ∙ take_all (length R) R (omega arith))
-      ∙ ap (passes p H R) (get_or_push R x d k (sym same)) ∙ passes_from p H R x late none)
+      ap (λ S. passes scheme n H S (get_or (R ++ x ∷ []) k d)) (ap (λ m. take m (R ++ x ∷ [])) same ∙ take-append-le (length R) R (x ∷ []) (omega arith) ∙ take_all (length R) R (omega arith))
+      ∙ ap (passes scheme n H R) (get_or_push R x d k (sym same)) ∙ passes_from scheme n H R x late none)
 ]
 
 -- The cycle that the first n reads share, found by testing all of them.
@@ -147,17 +167,18 @@ all_take R n are l k d lt = let within : k < n = omega (arith, length-take n R) 
 no_read : ReadAt
 no_read = record { item = 0; cycle = 0 }
 
--- If reads are accepted, what holds of accepted reads holds of the first n of them.
-kept_of_first : (p : Policy) (H : List Event) (R : List ReadAt) → All IsRead R → Accepts p H R → (n : ℕ) → n ≤ length R → IsKept p H (take n R) (cycle_of_first H R n)
-kept_of_first p H R are accepts zero l = subst (IsKept p H []) (sym (cycle_of_no_read H R)) (kept_none p H)
-kept_of_first p H R are accepts (suc n) l =
-    let within : n < length R = omega arith in
-    let passed = passes_says p H (take n R) (get_or R n no_read) (accepts n no_read within) in
-    let more : take (suc n) R ≡ take n R ++ get_or R n no_read ∷ [] = ap (λ m. take m R) (sym (add-one n)) ∙ take_more R n no_read within in
-    subst (IsKept p H (take (suc n) R)) (sym (cycle_of_next H R n no_read within))
-    (subst (λ S. IsKept p H S (cycle_with H (take n R) (get_or R n no_read) (cycle_of_first H R n))) (sym more)
-    (kept_more p H (take n R) (get_or R n no_read) (cycle_of_first H R n) (all_take R n are (omega arith)) (are n no_read within)
-    (kept_of_first p H R are accepts n (omega arith)) passed.0 passed.1))
+-- If reads are accepted, what holds of accepted reads holds of the first m of them.
+kept_of_first : (scheme : Scheme) (n : ℕ) (H : List Event) (R : List ReadAt) → All IsRead R → Accepts scheme n H R → (m : ℕ) → m ≤ length R → IsKept scheme.policy H (take m R) (cycle_of_first H R m)
+kept_of_first scheme n H R are accepts zero l = subst (IsKept scheme.policy H []) (sym (cycle_of_no_read H R)) (kept_none scheme.policy H)
+kept_of_first scheme n H R are accepts (suc m) l =
+    let p = scheme.policy in
+    let within : m < length R = omega arith in
+    let passed = passes_says scheme n H (take m R) (get_or R m no_read) (accepts m no_read within) in
+    let more : take (suc m) R ≡ take m R ++ get_or R m no_read ∷ [] = ap (λ m. take m R) (sym (add-one m)) ∙ take_more R m no_read within in
+    subst (IsKept p H (take (suc m) R)) (sym (cycle_of_next H R m no_read within))
+    (subst (λ S. IsKept p H S (cycle_with H (take m R) (get_or R m no_read) (cycle_of_first H R m))) (sym more)
+    (kept_more p H (take m R) (get_or R m no_read) (cycle_of_first H R m) (all_take R m are (omega arith)) (are m no_read within)
+    (kept_of_first scheme n H R are accepts m (omega arith)) passed.0 (policy_free scheme n H (take m R) (get_or R m no_read) passed.1)))
 
 kept_sound : (p : Policy) (H : List Event) (R : List ReadAt) → All IsRead R → IsKept p H R (current_cycle H R) → IsSound p H R
 kept_sound FMatrix H R are k = record { consistent = k; shared = tt }
@@ -170,7 +191,7 @@ kept_sound RMatrix H R are k = record {
   shared = k.0;
 }
 
-pub accepted : (policy : Policy) (H : List Event) (R : List ReadAt) → All IsRead R → Accepts policy H R → IsSound policy H R
+pub accepted : (scheme : Scheme) (n : ℕ) (H : List Event) (R : List ReadAt) → All IsRead R → Accepts scheme n H R → IsSound scheme.policy H R
 unfolding current_cycle
-accepted p H R are accepts = kept_sound p H R are
-    (subst (λ S. IsKept p H S (current_cycle H R)) (take_all (length R) R (omega arith)) (kept_of_first p H R are accepts (length R) (omega arith)))
+accepted scheme n H R are accepts = kept_sound scheme.policy H R are
+    (subst (λ S. IsKept scheme.policy H S (current_cycle H R)) (take_all (length R) R (omega arith)) (kept_of_first scheme n H R are accepts (length R) (omega arith)))

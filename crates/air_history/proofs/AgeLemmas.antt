@@ -10,7 +10,7 @@ use Rattle.air_base.specs.declared.verdicts.Policy.{Policy}
 use Rattle.air_base.specs.declared.verdicts.Policy.TheVariants.{FMatrix, Datacycle, RMatrix}
 use Rattle.air_history.specs.declared.histories.Event.{Event}
 use Rattle.air_history.specs.Histories.{front}
-use Rattle.air_history.specs.Columns.{Scheme, policy_entries, column_entry, vector_entry}
+use Rattle.air_history.specs.Columns.{Scheme, aired_entries, column_entry, group_column, group_entry, has_groups, policy_entries, vector_entry}
 use Rattle.air_history.specs.Reads.{ReadAt, newest_cycle, oldest_cycle}
 use Rattle.air_history.specs.Ages.{capped, span, spans_too_far}
 use Rattle.air_history.specs.Clashes.{HeardRead, read_at, entry_of, newest_heard}
@@ -152,11 +152,18 @@ aired_length FMatrix n H c j = length-map-range_with_len (column_entry (front H 
 aired_length Datacycle n H c j = length-map-range_with_len (vector_entry (front H c)) 0 n
 aired_length RMatrix n H c j = length-map-range_with_len (vector_entry (front H c)) 0 n
 
+scheme_length : (scheme : Scheme) (n : ℕ) (H : List Event) (c j : ℕ) → length (aired_entries scheme n H c j) ≡ n
+scheme_length scheme n H c j = by (has_groups scheme)
+  where
+    by : (b : Bool) → length (cond b (group_column scheme.group n (front H c) j) (policy_entries scheme.policy n H c j)) ≡ n
+    by true = length-map-range_with_len (group_entry scheme.group n (front H c) j) 0 n
+    by false = aired_length scheme.policy n H c j
+
 pub full_is_capped : (scheme : Scheme) (n : ℕ) (H : List Event) (r : HeardRead) → HasAiredEntries scheme n H r → HasCappedEntries scheme n H r
 full_is_capped scheme n H r is = record {
   cycle = is.cycle;
   within = is.within;
-  sized = ap length is.entries ∙ aired_length scheme.policy n H r.cycle r.item;
+  sized = ap length is.entries ∙ scheme_length scheme n H r.cycle r.item;
   entries = λ i l. inl (ap (λ es. get_or es i 0) is.entries);
 }
 

@@ -56,7 +56,7 @@ abbrev all_written : List Event
 all_written = Start ∷ commit 0 [] (set_to 0 1) ∷ commit 1 [] (set_to 1 1) ∷ commit 2 [] (set_to 2 1) ∷ Start ∷ []
 
 -- A clash with item 0 of cycle 1.
-abbrev with_first : Option Clash
+abbrev pub with_first : Option Clash
 with_first = Some (record { item = 0; cycle = 1 })
 
 -- The clash of item 1 of cycle 2 with item 0 of cycle 1, by the history and by the entries.
@@ -97,6 +97,7 @@ pub record Clashes : Type 0 where
   -- only under R-Matrix does an older read come late; Datacycle names what it holds of the newest cycle
   late : is_late RMatrix (at 0 2 ∷ []) (at 1 1) ≡ true
   in_time : is_late FMatrix (at 0 2 ∷ []) (at 1 1) ≡ false
+  in_time_too : is_late Datacycle (at 0 2 ∷ []) (at 1 1) ≡ false
   older : clash_by_history Datacycle apart (at 0 2 ∷ []) (at 1 1) ≡ Some (record { item = 0; cycle = 2 })
   -- the least item number is named, in any order of reading
   least_named : clash_by_history Datacycle apart (at 1 1 ∷ at 0 1 ∷ []) (at 2 2) ≡ with_first
@@ -133,6 +134,7 @@ clashes = record {
   r_matrix_one = (refl, refl);
   late = refl;
   in_time = refl;
+  in_time_too = refl;
   older = refl;
   least_named = refl;
   least_of_two = (((refl, refl), (refl, refl)), ((refl, refl), (refl, refl)));

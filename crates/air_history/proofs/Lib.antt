@@ -14,12 +14,15 @@ pub mod ClashExamples
 pub mod RelationExamples
 pub mod HeldExamples
 pub mod AgeExamples
+pub mod GroupExamples
 pub mod ConsistencyLemmas
 pub mod StepLemmas
 pub mod RepeatLemmas
 pub mod StaleLemmas
 pub mod NamedLemmas
 pub mod AgeLemmas
+pub mod GroupLemmas
+pub mod OneGroupLemmas
 pub mod ClashLemmas
 pub mod PolicyLemmas
 pub mod AcceptedLemmas

@@ -2,7 +2,7 @@
 use Rattle.std.proofs.Common.{◌≡◌, Bool, true, false, cond, nat_le, Option, Some, None, List, [], ◌∷◌, map, All, refl, sym, ◌∙◌, ap, inl, inr, arith}
 use Rattle.std.specs.List.{filter}
 use Rattle.std.proofs.lemmas.Bool.{cases_Bool, both_ways, cond-true, cond-false}
-use Rattle.std.proofs.lemmas.List.Elements.{All-head, All-tail, All-cons}
+use Rattle.std.proofs.lemmas.List.Elements.{All-head, All-tail, All-cons, filter_agree}
 use Rattle.air_base.specs.declared.verdicts.Clash.{Clash}
 use Rattle.air_history.specs.Reads.{ReadAt}
 use Rattle.air_history.specs.Clashes.{lesser, least, named_clash, HeardRead, read_at, heard_clash}
@@ -54,3 +54,7 @@ named_heard s t (r ∷ R) h =
 
 pub clash_heard : (s : ReadAt → Bool) (t : HeardRead → Bool) (R : List HeardRead) → All (λ r. s (read_at r) ≡ t r) R → named_clash s (map read_at R) ≡ heard_clash t R
 clash_heard s t R h = ap least (named_heard s t R h)
+
+-- Two tests that agree name the same read.
+pub named_same : (s t : ReadAt → Bool) (R : List ReadAt) → ((r : ReadAt) → s r ≡ t r) → named_clash s R ≡ named_clash t R
+named_same s t R same = ap least (filter_agree s t same R)

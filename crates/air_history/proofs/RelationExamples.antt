@@ -3,7 +3,6 @@ use Rattle.std.proofs.Common.{◌≡◌, ℕ, zero, suc, ◌<◌, ◌≤◌, Boo
 use Rattle.std.proofs.lemmas.Bool.{false≢true, eqb-true, or_cases}
 use Rattle.std.proofs.lemmas.List.Elements.{All-nil, All-cons, All-from_recursion}
 use Rattle.std.proofs.lemmas.List.Kept.{AllPairs-cons}
-use Rattle.air_base.specs.declared.verdicts.Policy.{Policy}
 use Rattle.air_base.specs.declared.verdicts.Policy.TheVariants.{FMatrix, Datacycle, RMatrix}
 use Rattle.air_history.specs.declared.histories.Event.{Event}
 use Rattle.air_history.specs.declared.histories.Event.TheVariants.{Start}
@@ -13,7 +12,7 @@ use Rattle.air_history.specs.Places.{last_place, greatest, greatest_of}
 use Rattle.air_history.specs.Histories.{is_start, reads, writes, cycle_at, front, writer_before, writer, EventFits, ItemsFit}
 use Rattle.air_history.specs.Descents.{descends_in, descends}
 use Rattle.air_history.specs.DescentLaws.{ReadsFrom, IsClosed}
-use Rattle.air_history.specs.Columns.{column_entry, vector_entry, entry_at, scheme_of}
+use Rattle.air_history.specs.Columns.{Scheme, column_entry, vector_entry, entry_at, scheme_of}
 use Rattle.air_history.specs.Tables.{BasesRead, WriteFits}
 use Rattle.air_history.specs.Reads.{ReadAt, IsRead, origin, stale}
 use Rattle.air_history.specs.Consistency.{descends_from, runs_alone, last_alone, consistent, IsConsistent}
@@ -206,15 +205,15 @@ pub record Accepted : Type 0 where
   -- they may not fall
   not_in_order : IsAllowed RMatrix (at 0 2 ∷ at 1 1 ∷ []) → ⊥
   -- item 1 of cycle 2 passes after item 0 of cycle 1
-  passes_next : passes RMatrix one_written (at 0 1 ∷ []) (at 1 2) ≡ true
+  passes_next : passes (scheme_of RMatrix) 2 one_written (at 0 1 ∷ []) (at 1 2) ≡ true
   -- after item 0 of cycle 2, item 1 of cycle 1 is late and doesn't pass
-  late_fails : passes RMatrix one_written (at 0 2 ∷ []) (at 1 1) ≡ false
+  late_fails : passes (scheme_of RMatrix) 2 one_written (at 0 2 ∷ []) (at 1 1) ≡ false
   -- R-Matrix accepts both reads
-  accepts_r : Accepts RMatrix one_written first_then_next
+  accepts_r : Accepts (scheme_of RMatrix) 2 one_written first_then_next
   -- F-Matrix accepts reads that share no cycle
-  accepts_f : Accepts FMatrix apart first_then_next
+  accepts_f : Accepts (scheme_of FMatrix) 2 apart first_then_next
   -- under Datacycle the second of them clashes with the first
-  not_accepted : Accepts Datacycle apart first_then_next → ⊥
+  not_accepted : Accepts (scheme_of Datacycle) 2 apart first_then_next → ⊥
   -- the reads share the current cycle, which is 1
   shares_current : SharesItsCycle RMatrix one_written first_then_next
   -- these share the newest cycle, which is 2
@@ -227,10 +226,10 @@ pub record Accepted : Type 0 where
   sound_f : IsSound FMatrix apart first_then_next
 
 -- If each of the two reads passes, they are accepted.
-both_pass : (policy : Policy) (H : List Event) → passes policy H [] (at 0 1) ≡ true → passes policy H (at 0 1 ∷ []) (at 1 2) ≡ true → Accepts policy H first_then_next
-both_pass policy H one two zero d l = one
-both_pass policy H one two (suc zero) d l = two
-both_pass policy H one two (suc (suc k)) d l = absurd (omega arith)
+both_pass : (scheme : Scheme) (n : ℕ) (H : List Event) → passes scheme n H [] (at 0 1) ≡ true → passes scheme n H (at 0 1 ∷ []) (at 1 2) ≡ true → Accepts scheme n H first_then_next
+both_pass scheme n H one two zero d l = one
+both_pass scheme n H one two (suc zero) d l = two
+both_pass scheme n H one two (suc (suc k)) d l = absurd (omega arith)
 
 pub accepted : Accepted
 unfolding passes current_cycle clash_by_history is_late least stale consistent last_alone runs_alone descends_from origin column_entry vector_entry greatest writer writer_before last_place writes descends descends_in reads front cycle_at is_start
@@ -244,8 +243,8 @@ accepted =
       not_in_order = λ h. let le = h 0 1 (at 0 0) (omega arith) (omega arith) in omega arith;
       passes_next = refl;
       late_fails = refl;
-      accepts_r = both_pass RMatrix one_written refl refl;
-      accepts_f = both_pass FMatrix apart refl refl;
+      accepts_r = both_pass (scheme_of RMatrix) 2 one_written refl refl;
+      accepts_f = both_pass (scheme_of FMatrix) 2 apart refl refl;
       not_accepted = λ h. let e : false ≡ true = h 1 (at 0 0) (omega arith) in cc;
       shares_current = shared;
       shares_newest = All-from_recursion (λ r. stale one_written r 2 ≡ false) (at 1 1 ∷ at 0 2 ∷ []) (refl, (refl, tt));

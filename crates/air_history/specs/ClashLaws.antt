@@ -1,5 +1,6 @@
--- The definitions of the laws of clashes: entries that a history aired, and reads that a policy accepted one after another. The
--- laws are `clash_law`, `stays_consistent_law`, `stays_current_law`, `takes_law` and `accepted_law`.
+-- The definitions of the laws of clashes: entries that a history aired, and reads that a scheme accepted one after another. The
+-- laws are `clash_law`, `group_clash_law`, `one_law`, `all_law`, `stays_consistent_law`, `stays_current_law`, `takes_law` and
+-- `accepted_law`.
 use Rattle.std.specs.Prelude.{◌≡◌, ◌⊎◌, ℕ, ◌<◌, ◌≤◌, Bool, false, not, ◌&&◌, is_none, List, [], ◌∷◌, ◌++◌, length, map, take, get_or, slice_index, All, AllPairs, IsTrue}
 use Rattle.std.specs.List.{list_all}
 use Rattle.std.specs.Option.{option_map_or}
@@ -7,12 +8,13 @@ use Rattle.air_base.specs.declared.verdicts.Policy.{Policy}
 use Rattle.air_base.specs.declared.verdicts.Policy.TheVariants.{FMatrix, Datacycle, RMatrix}
 use Rattle.air_history.specs.declared.histories.Event.{Event}
 use Rattle.air_history.specs.Places.{last_place}
+use Rattle.air_history.specs.Histories.{cycle_at, event_at, writes}
 use Rattle.air_history.specs.Columns.{Scheme, aired_entries}
 use Rattle.air_history.specs.Reads.{ReadAt, stale, newest_cycle}
 use Rattle.air_history.specs.Ages.{capped, spans_too_far}
 use Rattle.air_history.specs.Consistency.{IsConsistent}
 use Rattle.air_history.specs.ConsistencyLaws.{SharesCycle}
-use Rattle.air_history.specs.Clashes.{HeardRead, read_at, entry_of, is_late, clash_by_history}
+use Rattle.air_history.specs.Clashes.{HeardRead, read_at, entry_of, is_late, clash_of}
 
 -- Over n items the read has the entries that H airs by the scheme with the read's item in its cycle.
 pub record HasAiredEntries (scheme : Scheme) (n : ℕ) (H : List Event) (r : HeardRead) : Type 0 where
@@ -44,13 +46,17 @@ IsAllowed FMatrix R = Unit {0}
 IsAllowed Datacycle R = Unit {0}
 IsAllowed RMatrix R = AllPairs (λ r s. r.cycle ≤ s.cycle) R
 
--- Whether the new read passes after the held ones: it isn't late, and nothing clashes with it.
-unfoldable pub passes : Policy → List Event → List ReadAt → ReadAt → Bool
-passes policy H R x = not (is_late policy R x) && is_none (clash_by_history policy H R x)
+-- Whether the new read passes after the held ones, over n items: it isn't late, and nothing clashes with it.
+unfoldable pub passes : Scheme → ℕ → List Event → List ReadAt → ReadAt → Bool
+passes scheme n H R x = not (is_late scheme.policy R x) && is_none (clash_of scheme n H R x)
 
--- The policy accepts the reads: each passes after those before it.
-abbrev pub Accepts : Policy → List Event → List ReadAt → Type 0
-Accepts policy H R = (k : ℕ) (d : ReadAt) → k < length R → IsTrue (passes policy H (take k R) (get_or R k d))
+-- The scheme accepts the reads: each passes after those before it.
+abbrev pub Accepts : Scheme → ℕ → List Event → List ReadAt → Type 0
+Accepts scheme n H R = (k : ℕ) (d : ReadAt) → k < length R → IsTrue (passes scheme n H (take k R) (get_or R k d))
+
+-- A commit from cycle c on and before cycle d writes the item.
+abbrev pub IsWrittenBetween : List Event → ℕ → ℕ → ℕ → Type 0
+IsWrittenBetween H item c d = (p : ℕ) × (p < length H) × IsTrue (writes (event_at H p) item) × (c ≤ cycle_at H p) × (cycle_at H p < d)
 
 -- The cycle of a read of the list.
 abbrev pub cycle_in : List ReadAt → ℕ → ℕ

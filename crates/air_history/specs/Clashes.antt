@@ -2,10 +2,12 @@
 -- only at the entries that were heard with the reads. The clash is the held read with the least item number among those that
 -- the policy names.
 use Rattle.std.specs.Prelude.{◌≡◌, ◌⊎◌, ℕ, Bool, false, cond, not, ◌||◌, ◌==◌, nat_le, nat_lt, List, [], ◌∷◌, map, filter, get_or, All, IsTrue, Option, Some, None}
+use Rattle.std.specs.List.{list_any}
 use Rattle.air_base.specs.declared.verdicts.Policy.{Policy}
 use Rattle.air_base.specs.declared.verdicts.Policy.TheVariants.{FMatrix, Datacycle, RMatrix}
 use Rattle.air_base.specs.declared.verdicts.Clash.{Clash}
 use Rattle.air_history.specs.declared.histories.Event.{Event}
+use Rattle.air_history.specs.Columns.{Scheme, group_of, has_groups}
 use Rattle.air_history.specs.Reads.{ReadAt, same_origin, stale, newest_cycle, first_cycle, last_cycle}
 use Rattle.air_history.specs.Consistency.{consistent}
 
@@ -45,6 +47,21 @@ clash_by_history Datacycle H R x =
 -- and at the first held one.
 clash_by_history RMatrix H R x =
     cond (same_origin H x.item x.cycle (first_cycle R)) None (named_clash (λ r. stale H r x.cycle) R)
+
+-- Whether a held read r and the new read x clash by groups of g among n items. If r isn't newer than x, they clash if r isn't
+-- consistent with a read of some item of x's group in x's cycle. If r is newer, they clash if a read of some item of r's group in
+-- r's cycle isn't consistent with x.
+unfoldable pub group_clash : List Event → ℕ → ℕ → ReadAt → ReadAt → Bool
+group_clash H g n r x =
+    cond (nat_le r.cycle x.cycle)
+    (list_any (λ q. not (consistent H (r ∷ record { item = q; cycle = x.cycle } ∷ []))) (group_of g n x.item))
+    (list_any (λ q. not (consistent H (record { item = q; cycle = r.cycle } ∷ x ∷ []))) (group_of g n r.item))
+
+-- The clash of the new read x with the held reads R under a scheme over n items: by groups if the scheme airs by groups, otherwise
+-- by the policy.
+abbrev pub clash_of : Scheme → ℕ → List Event → List ReadAt → ReadAt → Option Clash
+clash_of scheme n H R x =
+    cond (has_groups scheme) (named_clash (λ r. group_clash H scheme.group n r x) R) (clash_by_history scheme.policy H R x)
 
 -- What Datacycle requires of held reads: none is stale at their newest cycle.
 abbrev pub IsCurrent : List Event → List ReadAt → Type 0

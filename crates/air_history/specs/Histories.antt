@@ -1,7 +1,7 @@
 -- A history is a list of events, which are commits and cycle starts. A place is an index into it, from 0. Defined here: what an
 -- event reads and writes, the cycle of a place, the front of a cycle, and the last writer.
 use Rattle.std.specs.Prelude.{ℕ, zero, suc, ◌<◌, Bool, true, false, ◌==◌, List, [], ◌∷◌, length, get_or, take, count_by, cond, Option}
-use Rattle.std.specs.List.{list_any}
+use Rattle.std.specs.List.{flat_map, list_any}
 use Rattle.air_history.specs.declared.histories.Event.{Event}
 use Rattle.air_history.specs.declared.histories.Event.TheVariants.{Commit, Start}
 use Rattle.air_history.specs.declared.updates.Write.{Write}
@@ -41,6 +41,7 @@ unfoldable pub cycle_at : List Event → ℕ → ℕ
 cycle_at H p = count_by is_start (take p H)
 
 -- The front of cycle c: the events before the c-th start. It is empty for c = 0, and has all events if there are fewer starts.
+-- That a commit is before the c-th start and that its cycle is below c is the same.
 unfoldable pub front : List Event → ℕ → List Event
 front H zero = []
 front [] (suc c) = []
@@ -52,6 +53,10 @@ front (Commit by seq update ∷ H) (suc c) = Commit by seq update ∷ front H (s
 unfoldable pub since_start : List Event → List Event
 since_start [] = []
 since_start (e ∷ G) = cond (list_any is_start (e ∷ G)) (since_start G) (e ∷ G)
+
+-- The events of batches, one batch after another.
+abbrev pub events_in : List (List Event) → List Event
+events_in batches = flat_map (λ batch. batch) batches
 
 -- The last place before p whose commit writes the item.
 unfoldable pub writer_before : List Event → ℕ → ℕ → Option ℕ

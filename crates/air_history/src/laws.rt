@@ -5,22 +5,21 @@
 
 ghost use Rattle.std.specs.Prelude.{◌≡◌, ◌≢◌, ◌↔◌, ◌⊎◌, ℕ, ◌<◌, ◌≤◌, Bool, false, cond, List, [], ◌∷◌, ◌++◌, length, map, All, AllPairs, Contains, IfSome, IsTrue, None};
 ghost use Rattle.air_base.specs.declared.limits.TheConstants.{MOST_READS, MOST_WRITES};
-ghost use Rattle.air_base.specs.declared.verdicts.Policy.{Policy};
 ghost use Rattle.air_base.specs.declared.verdicts.Policy.TheVariants.{FMatrix, Datacycle, RMatrix};
 ghost use Rattle.air_history.specs.declared.histories.Event.{Event};
 ghost use Rattle.air_history.specs.UpdateLists.{UpdateLists};
 ghost use Rattle.air_history.specs.UpdateRules.{written_item, KeepsRules};
 ghost use Rattle.air_history.specs.Places.{greatest_of};
-ghost use Rattle.air_history.specs.Histories.{writes, reads, cycle_at};
+ghost use Rattle.air_history.specs.Histories.{writes, reads, cycle_at, front};
 ghost use Rattle.air_history.specs.Descents.{descends};
 ghost use Rattle.air_history.specs.DescentLaws.{IsClosed};
-ghost use Rattle.air_history.specs.Columns.{Scheme, column_entry, vector_entry, entry_at};
+ghost use Rattle.air_history.specs.Columns.{Scheme, aired_entries, column, column_entry, entry_at, group_scheme, vector_entry};
 ghost use Rattle.air_history.specs.Tables.{table, BasesRead};
 ghost use Rattle.air_history.specs.Reads.{ReadAt, IsRead, read_value};
 ghost use Rattle.air_history.specs.Consistency.{alone, IsConsistent};
 ghost use Rattle.air_history.specs.ConsistencyLaws.{SharesCycle};
-ghost use Rattle.air_history.specs.Clashes.{HeardRead, read_at, is_late, clash_by_history, clash_by_entries, IsCurrent, Takes};
-ghost use Rattle.air_history.specs.ClashLaws.{HaveAiredEntries, IsAllowed, Accepts, IsSound};
+ghost use Rattle.air_history.specs.Clashes.{HeardRead, read_at, is_late, clash_by_history, clash_by_entries, clash_of, group_clash, named_clash, IsCurrent, Takes};
+ghost use Rattle.air_history.specs.ClashLaws.{HaveAiredEntries, IsAllowed, IsWrittenBetween, Accepts, IsSound};
 
 /// Two lists break no rule if and only if each rule holds: reads and writes are within their limits, there is at least one
 /// write, no item is twice among the reads or among the writes, each base is read, and a minus has a base.
@@ -95,7 +94,30 @@ pub fn one_cycle_law()
 pub fn clash_law()
     ensures { (scheme : Scheme) (n : ℕ) (H : List Event) (R : List HeardRead) (x : HeardRead) → HaveAiredEntries scheme n H R x →
         IsAllowed scheme.policy (map read_at R ++ read_at x ∷ []) →
-        clash_by_history scheme.policy H (map read_at R) (read_at x) ≡ clash_by_entries scheme.policy R x }
+        clash_of scheme n H (map read_at R) (read_at x) ≡ clash_by_entries scheme.policy R x }
+{}
+
+/// If the entries are the group columns of a history, in full or as ages give them, F-Matrix's clash by the entries is the held
+/// read with the least item number among those that clash with the new one by groups.
+pub fn group_clash_law()
+    ensures { (g n : ℕ) (H : List Event) (R : List HeardRead) (x : HeardRead) → 0 < g → HaveAiredEntries (group_scheme g) n H R x →
+        clash_by_entries FMatrix R x ≡ named_clash (λ r. group_clash H g n r (read_at x)) (map read_at R) }
+{}
+
+/// Groups of one item are no groups: the clash is that of F-Matrix, and an item is aired with its control column.
+pub fn one_law()
+    ensures clash { (n : ℕ) (H : List Event) (R : List ReadAt) (x : ReadAt) →
+        clash_of (group_scheme 1) n H R x ≡ clash_by_history FMatrix H R x }
+    ensures aired { (n : ℕ) (H : List Event) (c j : ℕ) → aired_entries (group_scheme 1) n H c j ≡ column n (front H c) j }
+{}
+
+/// If one group has all items, two reads of unequal cycles clash if and only if the older one's item was written in its cycle or
+/// later, before the newer cycle.
+pub fn all_law()
+    ensures older { (g n : ℕ) (H : List Event) (r x : ReadAt) → n ≤ g → r.item < n → x.item < n → IsRead r → r.cycle < x.cycle →
+        IsTrue (group_clash H g n r x) ↔ IsWrittenBetween H r.item r.cycle x.cycle }
+    ensures newer { (g n : ℕ) (H : List Event) (r x : ReadAt) → n ≤ g → r.item < n → x.item < n → IsRead x → x.cycle < r.cycle →
+        IsTrue (group_clash H g n r x) ↔ IsWrittenBetween H x.item x.cycle r.cycle }
 {}
 
 /// After consistent reads, F-Matrix has no clash if and only if the reads stay consistent.
@@ -116,8 +138,8 @@ pub fn takes_law()
         (clash_by_history RMatrix H R x ≡ None) ↔ Takes H R x }
 {}
 
-/// Reads that a policy accepted one after another are consistent, and share the cycle that the policy gives them.
+/// Reads that a scheme accepted one after another are consistent, and share the cycle that its policy gives them.
 pub fn accepted_law()
-    ensures { (policy : Policy) (H : List Event) (R : List ReadAt) → All IsRead R → Accepts policy H R →
-        IsSound policy H R }
+    ensures { (scheme : Scheme) (n : ℕ) (H : List Event) (R : List ReadAt) → All IsRead R → Accepts scheme n H R →
+        IsSound scheme.policy H R }
 {}

@@ -76,9 +76,9 @@ fn seek_read(reads: &[u16], sought: &mut [bool])
     }
 }
 
-/// Marks the places from which the commit at `place` descends, itself included.
+/// Marks the places from which the commit at `place` descends, itself included. Of a start, only the start is marked.
 ///
-/// One pass backwards. A commit that writes an item looked for is marked. The items that it writes are then found, and those
+/// One walk backwards. A commit that writes an item looked for is marked. The items that it writes are then found, and those
 /// that it reads are looked for before it.
 pub fn descends(alloc: Global, h: &History, place: u64) -> Result<Vec<bool>, NoMemory>
     requires { place < length h.now }

@@ -1,5 +1,5 @@
 -- The records of an indexed tape of a deck are read back.
-use Rattle.std.proofs.Common.{◌≡◌, ◌≤◌, ◌<◌, ◌+◌, ◌*◌, ◌^◌, ℕ, suc, Bool, Some, List, All, drop, length, length-append, refl, sym, subst, ◌∙◌, ap, arith}
+use Rattle.std.proofs.Common.{◌≡◌, ◌≤◌, ◌<◌, ◌+◌, ◌*◌, ◌^◌, ℕ, suc, Bool, true, Some, List, All, drop, length, length-append, refl, sym, subst, ◌∙◌, ap, arith}
 use Rattle.std.specs.List.{position_or_len}
 use Rattle.std.proofs.Math.Nat.{mul-suc}
 use Rattle.std.proofs.lemmas.List.{length-drop}
@@ -16,7 +16,7 @@ use Rattle.item_catalog.specs.DeckLimits.{WithinLimits}
 use Rattle.chunk_program.specs.Editions.{plans_in}
 use Rattle.chunk_program.specs.Plans.{AreShort}
 use Rattle.chunk_program.proofs.CutLemmas.{deck_items, deck_limits}
-use Rattle.air_index.specs.Indexes.{Index, IsIndexInRange, index_bytes}
+use Rattle.air_index.specs.Indexes.{Index, IsIndexInRange, index_bytes, is_index}
 use Rattle.air_index.specs.IndexedTapes.{entries_for}
 use Rattle.air_index.specs.OnAir.{Mark, ahead, entry_for, marks_at, marks_index, marks_item, marks_of, wait_for}
 use Rattle.air_index.specs.Records.{IsDataInRange, data_bytes, indexed_at}
@@ -109,18 +109,15 @@ module _ (deck : Deck) (c q : ℕ) (made : IsDeck deck) (within : WithinLimits d
       let at = get_or-map-range_with_len (entry_for (plans_in deck) c q) 0 (length deck.items) k k d (omega arith) (omega arith) in
       subst P (sym at) (holds k)
 
-  pub deck_index_back : (m : ℕ) → 1 ≤ c → c < 2 ^ 32 → m < 2 ^ 16
-      → indexed_at (index_bytes c m (entries_for (plans_in deck) (length deck.items) c q)) ≡ Some (variant.Index (record { cycle = c; minor = m; entries = entries_for (plans_in deck) (length deck.items) c q }))
-  deck_index_back m started few minor =
-      let es = entries_for (plans_in deck) (length deck.items) c q in
+  index_in_range : (m : ℕ) → 1 ≤ c → c < 2 ^ 32 → m < 2 ^ 16 → IsIndexInRange (record { cycle = c; minor = m; entries = entries_for (plans_in deck) (length deck.items) c q })
+  index_in_range m started few minor =
       let there = edition_within deck c in
       let are = deck_limits deck (edition deck c) made within there in
       let items = deck_items deck (edition deck c) made within there in
       let some = are.some in
       let most = are.few in
       let long = long_entries in
-      index_back (record { cycle = c; minor = m; entries = es })
-      (record {
+      record {
         started = started;
         cycle = few;
         minor = minor;
@@ -128,7 +125,16 @@ module _ (deck : Deck) (c q : ℕ) (made : IsDeck deck) (within : WithinLimits d
         count = omega arith;
         ahead = each_entry (λ e. 1 ≤ e) (λ i. (entry_small i).0);
         entries = each_entry (λ e. e < 2 ^ 32) (λ i. (entry_small i).1);
-      })
+      }
+
+  pub deck_index_back : (m : ℕ) → 1 ≤ c → c < 2 ^ 32 → m < 2 ^ 16
+      → indexed_at (index_bytes c m (entries_for (plans_in deck) (length deck.items) c q)) ≡ Some (variant.Index (record { cycle = c; minor = m; entries = entries_for (plans_in deck) (length deck.items) c q }))
+  deck_index_back m started few minor = index_back (record { cycle = c; minor = m; entries = entries_for (plans_in deck) (length deck.items) c q }) (index_in_range m started few minor)
+
+  pub deck_index_is : (m : ℕ) → 1 ≤ c → c < 2 ^ 32 → m < 2 ^ 16 → is_index (index_bytes c m (entries_for (plans_in deck) (length deck.items) c q)) ≡ true
+  deck_index_is m started few minor =
+      let es = entries_for (plans_in deck) (length deck.items) c q in
+      (record_read (index_bytes c m es) (record { cycle = c; minor = m; entries = es }) (index_in_range m started few minor, refl)).0
 
   pub deck_data_back : (b : Bucket) → IsInRange b → indexed_at (data_bytes (wait_for (plans_in deck) c q) (spelling b)) ≡ Some (variant.Payload (wait_for (plans_in deck) c q) b)
   deck_data_back b range = data_back (wait_for (plans_in deck) c q) b (record { ahead = deck_wait.0; wait = deck_wait.1; bucket = range })

@@ -61,11 +61,11 @@ whole_from_test bytes t =
     let c = and_parts _ (nat_le 1 n) b.0 in
     let d = and_parts _ (nat_le 1 (number_at 5 4 bytes)) c.0 in
     let e = and_parts _ (number_at 1 4 bytes == 0) d.0 in
-    let f = and_parts _ (slice_index bytes 0 == 0) e.0 in
-    let g = and_parts (nat_le 13 (length bytes)) (length bytes == 13 + 4 * n) f.0 in
+    let f = and_parts (length bytes == 13 + 4 * n) (slice_index bytes 0 == 0) e.0 in
+    let exact = eqb-true (length bytes) (13 + 4 * n) f.0 in
     record {
-      long = leb-true 13 (length bytes) g.0;
-      exact = eqb-true (length bytes) (13 + 4 * n) g.1;
+      long = omega arith;
+      exact = exact;
       tag = eqb-true (slice_index bytes 0) 0 f.1;
       zeros = eqb-true (number_at 1 4 bytes) 0 e.1;
       started = leb-true 1 (number_at 5 4 bytes) d.1;
@@ -82,7 +82,7 @@ test_from_whole bytes w =
     (and_from _ _
     (and_from _ _
     (and_from _ _
-    (and_from _ _ (and_from _ _ (and_from _ _ (le-leb 13 (length bytes) w.long) (eq-eqb (length bytes) (13 + 4 * n) w.exact)) (eq-eqb (slice_index bytes 0) 0 w.tag)) (eq-eqb (number_at 1 4 bytes) 0 w.zeros))
+    (and_from _ _ (and_from _ _ (eq-eqb (length bytes) (13 + 4 * n) w.exact) (eq-eqb (slice_index bytes 0) 0 w.tag)) (eq-eqb (number_at 1 4 bytes) 0 w.zeros))
     (le-leb 1 (number_at 5 4 bytes) w.started))
     (le-leb 1 n w.some))
     (le-leb n MOST_ITEMS w.count))
@@ -256,23 +256,20 @@ record_from_test bytes all t =
 
 -- ---- the tests in the order in which the code makes them
 
+apart : (a b : ℕ) → a ≢ b → (a == b) ≡ false
+apart a b ne = grind arith
+
 pub test_short : (bytes : List ℕ) → length bytes < 13 → false ≡ is_index bytes
 unfolding is_index
-test_short bytes short = rw (above (length bytes) short) refl
-  where
-    above : (k : ℕ) → k < 13 → nat_le 13 k ≡ false
-    above k h = grind arith
+test_short bytes short = rw (apart (length bytes) (13 + 4 * number_at 11 2 bytes) (λ same. omega arith)) refl
 
-pub test_length : (bytes : List ℕ) (n : ℕ) → n ≡ number_at 11 2 bytes → 13 ≤ length bytes → length bytes ≢ 13 + 4 * n → false ≡ is_index bytes
+pub test_length : (bytes : List ℕ) (n : ℕ) → n ≡ number_at 11 2 bytes → length bytes ≢ 13 + 4 * n → false ≡ is_index bytes
 unfolding is_index
-test_length bytes n is long other = rw (le-leb 13 (length bytes) long, apart (length bytes) (13 + 4 * number_at 11 2 bytes) (λ same. other (same ∙ ap (λ k. 13 + 4 * k) (sym is)))) refl
-  where
-    apart : (a b : ℕ) → a ≢ b → (a == b) ≡ false
-    apart a b ne = grind arith
+test_length bytes n is other = rw (apart (length bytes) (13 + 4 * number_at 11 2 bytes) (λ same. other (same ∙ ap (λ k. 13 + 4 * k) (sym is)))) refl
 
-pub test_rest : (bytes : List ℕ) (n four cycle : ℕ) (ahead : Bool) → n ≡ number_at 11 2 bytes → 13 ≤ length bytes → length bytes ≡ 13 + 4 * n → four ≡ number_at 1 4 bytes → cycle ≡ number_at 5 4 bytes
+pub test_rest : (bytes : List ℕ) (n four cycle : ℕ) (ahead : Bool) → n ≡ number_at 11 2 bytes → length bytes ≡ 13 + 4 * n → four ≡ number_at 1 4 bytes → cycle ≡ number_at 5 4 bytes
     → ahead ≡ list_all (nat_le 1) (index_entries n bytes)
     → ((slice_index bytes 0 == 0) && (four == 0) && nat_le 1 cycle && nat_le 1 n && nat_le n MOST_ITEMS && ahead) ≡ is_index bytes
 unfolding is_index
-test_rest bytes n four cycle ahead is long exact z c a =
-    rw (a, z, c, le-leb 13 (length bytes) long, eq-eqb (length bytes) (13 + 4 * number_at 11 2 bytes) (exact ∙ ap (λ k. 13 + 4 * k) is), is) refl
+test_rest bytes n four cycle ahead is exact z c a =
+    rw (a, z, c, eq-eqb (length bytes) (13 + 4 * number_at 11 2 bytes) (exact ∙ ap (λ k. 13 + 4 * k) is), is) refl

@@ -19,5 +19,11 @@ pub mod CycleLemmas
 pub mod TapeSizeLemmas
 pub mod BoundLemmas
 pub mod NearLemmas
+pub mod FollowLemmas
+pub mod StandLemmas
+pub mod SoonLemmas
+pub mod RightLemmas
+pub mod CountLemmas
 pub mod OnAirExamples
 mod SeekExamples
+mod PlaceExamples

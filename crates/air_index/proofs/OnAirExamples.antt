@@ -6,7 +6,7 @@ use Rattle.chunk_program.specs.Editions.{Plans}
 use Rattle.air_index.specs.OnAir.{IsIndex, IsSlot, ahead, entry_for, marks_at, marks_index, marks_item, marks_of, wait_for}
 use Rattle.air_index.specs.IndexedTapes.{entries_for, indexed_size, mark_size}
 
-abbrev disk : List ℕ → ℕ → Disk
+abbrev pub disk : List ℕ → ℕ → Disk
 disk items freq = record { items = items; freq = freq }
 
 -- Plans of these disks, where those of each next edition come into force in the cycle named.

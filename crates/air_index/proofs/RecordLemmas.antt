@@ -3,7 +3,7 @@ use Rattle.std.proofs.Common.{◌≡◌, ◌≤◌, ◌<◌, ◌+◌, ◌++◌, 
 use Rattle.std.specs.Prelude.{MatchOption}
 use Rattle.std.specs.Result.{result_ok}
 use Rattle.std.proofs.lemmas.Bool.{and_from, and_parts, eq-eqb, eqb-true, le-leb, leb-true}
-use Rattle.std.proofs.lemmas.List.{get_or-drop}
+use Rattle.std.proofs.lemmas.List.{get_or-drop, length-drop}
 use Rattle.byteorder.specs.Endian.{big_bytes}
 use Rattle.byteorder.specs.Numbers.{big_number-reads_back}
 use Rattle.air_model.specs.declared.bucket.BucketFault.{BucketFault}
@@ -36,20 +36,21 @@ pub whole_from_test : (bytes : List ℕ) → is_data bytes ≡ true → IsWholeD
 unfolding is_data
 whole_from_test bytes t =
     let a = and_parts _ (is_some (bucket_in (drop 5 bytes))) t in
-    let b = and_parts _ (nat_le 1 (number_at 1 4 bytes)) a.0 in
-    let c = and_parts (nat_le 5 (length bytes)) (slice_index bytes 0 == 1) b.0 in
+    let b = and_parts (slice_index bytes 0 == 1) (nat_le 1 (number_at 1 4 bytes)) a.0 in
+    let bucket = bucket_from (drop 5 bytes) a.1 in
+    let exact = (whole_from_ok (drop 5 bytes) (bucket_at (drop 5 bytes)) bucket).0.exact in
+    let left = length-drop 5 bytes in
     record {
-      long = leb-true 5 (length bytes) c.0;
-      tag = eqb-true (slice_index bytes 0) 1 c.1;
+      long = omega arith;
+      tag = eqb-true (slice_index bytes 0) 1 b.0;
       ahead = leb-true 1 (number_at 1 4 bytes) b.1;
-      bucket = bucket_from (drop 5 bytes) a.1;
+      bucket = bucket;
     }
 
 pub test_from_whole : (bytes : List ℕ) → IsWholeData bytes → is_data bytes ≡ true
 unfolding is_data
 test_from_whole bytes w =
-    and_from _ _ (and_from _ _ (and_from _ _ (le-leb 5 (length bytes) w.long) (eq-eqb (slice_index bytes 0) 1 w.tag)) (le-leb 1 (number_at 1 4 bytes) w.ahead))
-    (ap (λ r. is_some (result_ok r)) w.bucket)
+    and_from _ _ (and_from _ _ (eq-eqb (slice_index bytes 0) 1 w.tag) (le-leb 1 (number_at 1 4 bytes) w.ahead)) (ap (λ r. is_some (result_ok r)) w.bucket)
 
 rest_all : (n : ℕ) (bytes : List ℕ) → AllBytes bytes → AllBytes (drop n bytes)
 rest_all n bytes all i = subst (λ x. x < 256) (sym (get_or-drop n bytes i 0)) (all (n + i))

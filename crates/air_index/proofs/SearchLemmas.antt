@@ -12,8 +12,8 @@ use Rattle.air_index.specs.Searches.{IsReached, told_after, told_from}
 use Rattle.air_index.specs.Seeks.{first_told, has_item, index_told, item_told, sought_first, sought_index, sought_item}
 use Rattle.air_index.specs.declared.records.Indexed.TheVariants as variant
 use Rattle.air_index.specs.declared.searches.Search.{Search}
-use Rattle.air_index.specs.declared.searches.Wanted.{Wanted}
-use Rattle.air_index.specs.declared.searches.Wanted.TheVariants as wanted
+use Rattle.air_index.specs.declared.searches.SearchStage.{SearchStage}
+use Rattle.air_index.specs.declared.searches.SearchStage.TheVariants as stage
 use Rattle.air_index.specs.declared.sought.Sought.{Sought}
 use Rattle.air_index.specs.declared.sought.Sought.TheVariants.{Found, Lost}
 
@@ -47,7 +47,7 @@ unfolding index_told
 index_lost i opens q index records h = sym (ap (λ o. option_map_or (λ e. sought_item i opens (q + e) (drop e records)) o (Lost opens)) (none_below i index.entries h))
 
 -- A search that waits for the item.
-pub item_next : (i opens q e : ℕ) (s : Search) (index : Index) (r : List ℕ) (records : List (List ℕ)) → s.wanted ≡ wanted.Item opens → s.place ≡ q + e → s.skip + 1 ≡ e
+pub item_next : (i opens q e : ℕ) (s : Search) (index : Index) (r : List ℕ) (records : List (List ℕ)) → s.stage ≡ stage.Item opens → s.place ≡ q + e → s.skip + 1 ≡ e
     → e ≡ get_or index.entries i 0 → i < length index.entries → told_after i s records ≡ index_told i opens q (r ∷ records) (Some (variant.Index index))
 unfolding told_from index_told
 item_next i opens q e s index r records w p k is under =
@@ -57,7 +57,7 @@ item_next i opens q e s index r records w p k is under =
     ∙ sym (ap (λ o. option_map_or (λ e. sought_item i opens (q + e) (drop e (r ∷ records))) o (Lost opens)) (slice_get-get_or index.entries i 0 under ∙ ap Some (sym is)))
 
 -- A search that waits for the index, where the first data record has another item.
-pub index_next : (i q wait : ℕ) (s : Search) (b : Bucket) (r : List ℕ) (records : List (List ℕ)) → s.wanted ≡ wanted.Index → s.place ≡ q + wait → s.skip + 1 ≡ wait
+pub index_next : (i q wait : ℕ) (s : Search) (b : Bucket) (r : List ℕ) (records : List (List ℕ)) → s.stage ≡ stage.Index → s.place ≡ q + wait → s.skip + 1 ≡ wait
     → has_item i b.body ≡ false → told_after i s records ≡ first_told i q (r ∷ records) (Some (variant.Payload wait b))
 unfolding told_from first_told
 index_next i q wait s b r records w p k other =
@@ -112,74 +112,74 @@ first_index i q records index = refl
 
 -- ---- the record that is waited for
 
-pub told_first : (i q : ℕ) (r : List ℕ) (records : List (List ℕ)) → first_told i q (r ∷ records) (indexed_at r) ≡ told_from i q wanted.First (r ∷ records)
+pub told_first : (i q : ℕ) (r : List ℕ) (records : List (List ℕ)) → first_told i q (r ∷ records) (indexed_at r) ≡ told_from i q stage.First (r ∷ records)
 unfolding told_from sought_first
 told_first i q r records = refl
 
-pub told_index : (i q : ℕ) (r : List ℕ) (records : List (List ℕ)) → index_told i 2 q (r ∷ records) (indexed_at r) ≡ told_from i q wanted.Index (r ∷ records)
+pub told_index : (i q : ℕ) (r : List ℕ) (records : List (List ℕ)) → index_told i 2 q (r ∷ records) (indexed_at r) ≡ told_from i q stage.Index (r ∷ records)
 unfolding told_from sought_index
 told_index i q r records = refl
 
-pub told_item : (i q opens : ℕ) (r : List ℕ) (records : List (List ℕ)) → item_told i (opens + 1) q (indexed_at r) ≡ told_from i q (wanted.Item opens) (r ∷ records)
+pub told_item : (i q opens : ℕ) (r : List ℕ) (records : List (List ℕ)) → item_told i (opens + 1) q (indexed_at r) ≡ told_from i q (stage.Item opens) (r ∷ records)
 unfolding told_from sought_item
 told_item i q opens r records = refl
 
-pub told_answer : (i q p : ℕ) (answer : Sought) (l records : List (List ℕ)) → told_from i q (wanted.Nothing answer) l ≡ told_from i p (wanted.Nothing answer) records
+pub told_answer : (i q p : ℕ) (answer : Sought) (l records : List (List ℕ)) → told_from i q (stage.Nothing answer) l ≡ told_from i p (stage.Nothing answer) records
 unfolding told_from
 told_answer i q p answer l records = refl
 
 -- The record itself.
-pub told_here : (i skip q : ℕ) (w : Wanted) (l : List (List ℕ)) → skip ≡ 0 → told_from i q w l ≡ told_from i q w (drop skip l)
+pub told_here : (i skip q : ℕ) (w : SearchStage) (l : List (List ℕ)) → skip ≡ 0 → told_from i q w l ≡ told_from i q w (drop skip l)
 told_here i skip q w l none = sym (ap (λ k. told_from i q w (drop k l)) none)
 
 -- A record before it.
-pub told_skip : (i skip q : ℕ) (w : Wanted) (r : List ℕ) (records : List (List ℕ)) → 0 < skip → told_from i q w (drop (skip - 1) records) ≡ told_from i q w (drop skip (r ∷ records))
+pub told_skip : (i skip q : ℕ) (w : SearchStage) (r : List ℕ) (records : List (List ℕ)) → 0 < skip → told_from i q w (drop (skip - 1) records) ≡ told_from i q w (drop skip (r ∷ records))
 told_skip i skip q w r records some = ap (told_from i q w) (sym (drop_next (skip - 1) skip r records (omega arith)))
 
 -- ---- no record more
 
-pub end_first : (i q skip : ℕ) → Lost 0 ≡ told_from i q wanted.First (drop skip [])
+pub end_first : (i q skip : ℕ) → Lost 0 ≡ told_from i q stage.First (drop skip [])
 unfolding told_from sought_first
 end_first i q zero = refl
 end_first i q (suc skip) = refl
 
-pub end_index : (i q skip : ℕ) → Lost 1 ≡ told_from i q wanted.Index (drop skip [])
+pub end_index : (i q skip : ℕ) → Lost 1 ≡ told_from i q stage.Index (drop skip [])
 unfolding told_from sought_index
 end_index i q zero = refl
 end_index i q (suc skip) = refl
 
-pub end_item : (i q skip opens : ℕ) → Lost opens ≡ told_from i q (wanted.Item opens) (drop skip [])
+pub end_item : (i q skip opens : ℕ) → Lost opens ≡ told_from i q (stage.Item opens) (drop skip [])
 unfolding told_from sought_item
 end_item i q zero opens = refl
 end_item i q (suc skip) opens = refl
 
-pub end_answer : (i q skip : ℕ) (answer : Sought) → answer ≡ told_from i q (wanted.Nothing answer) (drop skip [])
+pub end_answer : (i q skip : ℕ) (answer : Sought) → answer ≡ told_from i q (stage.Nothing answer) (drop skip [])
 unfolding told_from
 end_answer i q skip answer = refl
 
 -- ---- how far a search reaches
 
-pub reach_first : (q : ℕ) → q < 2 ^ 32 → IsReached q wanted.First
+pub reach_first : (q : ℕ) → q < 2 ^ 32 → IsReached q stage.First
 unfolding IsReached
 reach_first q h = h
 
-pub reach_index : (q wait : ℕ) (s : Search) → s.wanted ≡ wanted.Index → s.place ≡ q + wait → q < 2 ^ 32 → wait < 2 ^ 32 → IsReached s.place s.wanted
+pub reach_index : (q wait : ℕ) (s : Search) → s.stage ≡ stage.Index → s.place ≡ q + wait → q < 2 ^ 32 → wait < 2 ^ 32 → IsReached s.place s.stage
 unfolding IsReached
 reach_index q wait s w p a b = subst (IsReached s.place) (sym w) (omega (arith, p))
 
-pub reach_item : (opens : ℕ) (s : Search) → s.wanted ≡ wanted.Item opens → opens ≤ 2 → IsReached s.place s.wanted
+pub reach_item : (opens : ℕ) (s : Search) → s.stage ≡ stage.Item opens → opens ≤ 2 → IsReached s.place s.stage
 unfolding IsReached
 reach_item opens s w h = subst (IsReached s.place) (sym w) h
 
-pub first_reached : (s : Search) → IsReached s.place s.wanted → s.wanted ≡ wanted.First → s.place < 2 ^ 32
+pub first_reached : (s : Search) → IsReached s.place s.stage → s.stage ≡ stage.First → s.place < 2 ^ 32
 unfolding IsReached
 first_reached s h w = subst (IsReached s.place) w h
 
-pub index_reached : (s : Search) → IsReached s.place s.wanted → s.wanted ≡ wanted.Index → s.place < 2 ^ 33
+pub index_reached : (s : Search) → IsReached s.place s.stage → s.stage ≡ stage.Index → s.place < 2 ^ 33
 unfolding IsReached
 index_reached s h w = subst (IsReached s.place) w h
 
-pub item_reached : (s : Search) (opens : ℕ) → IsReached s.place s.wanted → s.wanted ≡ wanted.Item opens → opens ≤ 2
+pub item_reached : (s : Search) (opens : ℕ) → IsReached s.place s.stage → s.stage ≡ stage.Item opens → opens ≤ 2
 unfolding IsReached
 item_reached s opens h w = subst (IsReached s.place) w h
 

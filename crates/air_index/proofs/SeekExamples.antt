@@ -1,6 +1,6 @@
 -- Indexed tapes of small decks, and what is found on them.
 use Rattle.std.specs.Prelude.{◌≡◌, ℕ, ◌++◌, List, [], ◌∷◌, Some, true, false, drop, length, map, take, refl}
-use Rattle.air_model.specs.Buckets.{Bucket, Idle, Vector, body_at, bucket_at, count_of, entries_at, entries_of, entry_bytes, entry_count, entry_told, is_entry, is_placed, is_shaped, item_of, kind_of, raw_entries, reading, spelling, value_of}
+use Rattle.air_model.specs.Buckets.{Bucket, Column, Idle, Vector, body_at, bucket_at, count_of, entries_at, entries_of, entry_bytes, entry_count, entry_told, is_entry, is_placed, is_shaped, item_of, kind_of, raw_entries, reading, spelling, value_of}
 use Rattle.air_model.specs.Programs.{chunk, chunk_len, least_common_multiple, minor_cycle, num_chunks, num_minors, program}
 use Rattle.air_model.specs.Tapes.{ends_inside, read_from, record_bytes, tape_of, tape_read}
 use Rattle.air_index.specs.Indexes.{index_at, index_bytes, index_entries, is_index}
@@ -92,3 +92,31 @@ odd_indexes : is_index (index_bytes 1 0 (1 ∷ 2 ∷ [])) ∷ is_index (index_by
     ≡ true ∷ false ∷ false ∷ false ∷ false ∷ []
 unfolding index_bytes is_index index_entries
 odd_indexes = refl
+
+-- Nor is one with another tag, with a number after the tag, with its last entry cut, or with fewer entries than it counts.
+cut_indexes : is_index (1 ∷ drop 1 (index_bytes 1 0 (1 ∷ []))) ∷ is_index (0 ∷ 1 ∷ drop 2 (index_bytes 1 0 (1 ∷ []))) ∷ is_index (0 ∷ 0 ∷ 0 ∷ 0 ∷ 1 ∷ drop 5 (index_bytes 1 0 (1 ∷ []))) ∷ is_index (take 16 (index_bytes 1 0 (1 ∷ [])))
+    ∷ is_index (take 17 (index_bytes 1 0 (1 ∷ 2 ∷ []))) ∷ is_index (take 12 (index_bytes 1 0 [])) ∷ is_index [] ∷ [] ≡ false ∷ false ∷ false ∷ false ∷ false ∷ false ∷ false ∷ []
+unfolding index_bytes is_index index_entries
+cut_indexes = refl
+
+-- A cycle may have all of its four bytes.
+late_index : is_index (index_bytes 16777216 0 (1 ∷ [])) ≡ true
+unfolding index_bytes is_index index_entries
+late_index = refl
+
+-- An index is read with its high bytes first.
+index_read : index_at (index_bytes 66051 1029 (7 ∷ 66052 ∷ [])) ≡ record { cycle = 66051; minor = 1029; entries = 7 ∷ 66052 ∷ [] }
+unfolding index_at index_bytes index_entries
+index_read = refl
+
+-- A data record with another tag, a number 0, a bucket that is cut, a byte after its bucket, and without a bucket is none.
+odd_data : is_data (data_bytes 1 item_0) ∷ is_data (0 ∷ drop 1 (data_bytes 1 item_0)) ∷ is_data (data_bytes 0 item_0) ∷ is_data (data_bytes 1 (take 31 item_0)) ∷ is_data (data_bytes 1 (item_0 ++ 0 ∷ []))
+    ∷ is_data (data_bytes 1 []) ∷ is_data (take 4 (data_bytes 1 [])) ∷ [] ≡ true ∷ false ∷ false ∷ false ∷ false ∷ false ∷ false ∷ []
+unfolding data_bytes entry_bytes kind_of count_of item_of value_of entries_of spelling is_data bucket_at reading is_shaped is_placed is_entry raw_entries entry_count entries_at entry_told body_at
+odd_data = refl
+
+-- A body has its own item, and not the one that its value or its entries name; an idle one has none.
+items_had : has_item 1 (Column 1 20 (0 ∷ 0 ∷ [])) ∷ has_item 20 (Column 1 20 (0 ∷ 0 ∷ [])) ∷ has_item 0 (Column 1 0 (0 ∷ 0 ∷ [])) ∷ has_item 1 (Vector 1 20 (0 ∷ 0 ∷ [])) ∷ has_item 20 (Vector 1 20 (0 ∷ 0 ∷ []))
+    ∷ has_item 0 (Vector 1 0 (0 ∷ 0 ∷ [])) ∷ has_item 2 (Idle 2) ∷ [] ≡ true ∷ false ∷ false ∷ true ∷ false ∷ false ∷ false ∷ []
+unfolding has_item
+items_had = refl

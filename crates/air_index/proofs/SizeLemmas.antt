@@ -90,16 +90,22 @@ module _ (plans : Plans) (cycles e done end : ℕ) (before : (c : ℕ) → 1 ≤
       by true t most = let least = leb-true e (planned_edition plans c) t in omega arith
       by false f most = absurd (let again = (before c (omega arith) (omega arith)).1 (leb-false e (planned_edition plans c) f) in omega arith)
 
-  pub edition_more : (v n len : ℕ) (p : EditionDisks) → done ≤ cycles → end ≤ cycles → slice_get plans.programs e ≡ Some p → len ≡ marks_size v n (marks_of p.disks)
-      → indexed_size v n plans end ≡ indexed_size v n plans done + (end - done) * len
-  edition_more v n len p first within at is =
+  -- What a cycle has by its disks, summed over the cycles up to e.
+  pub edition_sum : (g : List Disk → ℕ) (len : ℕ) (p : EditionDisks) → done ≤ cycles → end ≤ cycles → slice_get plans.programs e ≡ Some p → len ≡ g p.disks
+      → sum_by (λ c. g (get_or plans.programs (planned_edition plans c) no_disks).disks) (range_with_len 1 end)
+      ≡ sum_by (λ c. g (get_or plans.programs (planned_edition plans c) no_disks).disks) (range_with_len 1 done) + (end - done) * len
+  edition_sum g len p first within at is =
       let later = ends_later first in
       let whole : end ≡ done + (end - done) = omega arith in
-      let size : ℕ → ℕ = λ c. marks_size v n (marks_of (get_or plans.programs (planned_edition plans c) no_disks).disks) in
+      let size : ℕ → ℕ = λ c. g (get_or plans.programs (planned_edition plans c) no_disks).disks in
       let alike : (c : ℕ) → done < c → c ≤ done + (end - done) → size c ≡ len =
-      λ c low high. ap (λ k. marks_size v n (marks_of (get_or plans.programs k no_disks).disks)) (own_cycle c low (omega arith) within)
-      ∙ ap (λ (q : EditionDisks). marks_size v n (marks_of q.disks)) (get_or_from_slice_get plans.programs e p no_disks at) ∙ sym is in
+      λ c low high. ap (λ k. g (get_or plans.programs k no_disks).disks) (own_cycle c low (omega arith) within)
+      ∙ ap (λ (q : EditionDisks). g q.disks) (get_or_from_slice_get plans.programs e p no_disks at) ∙ sym is in
       ap (λ k. sum_by size (range_with_len 1 k)) whole ∙ run_sum size len done (end - done) alike
+
+  pub edition_more : (v n len : ℕ) (p : EditionDisks) → done ≤ cycles → end ≤ cycles → slice_get plans.programs e ≡ Some p → len ≡ marks_size v n (marks_of p.disks)
+      → indexed_size v n plans end ≡ indexed_size v n plans done + (end - done) * len
+  edition_more v n len p first within at is = edition_sum (λ d. marks_size v n (marks_of d)) len p first within at is
 
 -- The sum stays far below 64 bits.
 pub sum_fits : (bytes done end len : ℕ) → bytes ≤ 135036928 * done → len ≤ 135036928 → done ≤ end → (bytes + (end - done) * len ≤ 135036928 * end) × ((end - done) * len ≤ 135036928 * end)

@@ -1,5 +1,5 @@
 -- The tape of a deck's script, plain and indexed, read back.
-use Rattle.std.proofs.Common.{◌≡◌, ◌≤◌, ◌<◌, ◌+◌, ◌^◌, ℕ, zero, suc, Ok, List, [], ◌∷◌, All, drop, get_or, length, length-append, map, refl, sym, ◌∙◌, ap, arith}
+use Rattle.std.proofs.Common.{◌≡◌, ◌≤◌, ◌<◌, ◌+◌, ◌^◌, ℕ, zero, suc, None, Ok, List, [], ◌∷◌, All, drop, get_or, length, length-append, map, refl, sym, ◌∙◌, ap, arith}
 use Rattle.std.specs.List.{flat_map, range_with_len, sum_by}
 use Rattle.std.specs.Result.{result_ok}
 use Rattle.std.proofs.lemmas.List.Elements.{All-append, All-cons, All-drop, All-head, All-nil, All-tail}
@@ -24,9 +24,10 @@ use Rattle.chunk_program.proofs.CutLemmas.{deck_items, deck_limits}
 use Rattle.chunk_program.proofs.EditionSteps.{slots_of_cycle}
 use Rattle.air_index.specs.BeamLaws.{data_of}
 use Rattle.air_index.specs.Indexes.{index_bytes}
-use Rattle.air_index.specs.IndexedTapes.{beam_tape_of, entries_for, indexed_records, records_at_marks, records_from}
+use Rattle.air_index.specs.IndexedTapes.{beam_tape_of, entries_for, records_at_marks, records_from}
 use Rattle.air_index.specs.OnAir.{IsIndex, IsSlot, Mark, entry_for, marks_at, wait_for}
 use Rattle.air_index.specs.Records.{data_bytes}
+use Rattle.air_index.specs.SeekLaws.{history_records}
 use Rattle.air_index.proofs.BeamLemmas.{slots_from}
 use Rattle.air_index.proofs.DataLemmas.{cycles_data}
 use Rattle.air_index.proofs.LengthLemmas.{bucket_short}
@@ -101,19 +102,24 @@ count_buckets deck H =
 
 -- ---- the tapes
 
+history_small : (deck : Deck) (H : List Event) → CanAir deck H → AreSmall (map spelling (buckets_of (values_in deck) (air_of deck) H))
+history_small deck H can = small_buckets (buckets_of (values_in deck) (air_of deck) H) (range deck H can)
+
+-- The indexed tape of a history is whole, and has its records.
+pub history_read : (deck : Deck) (H : List Event) → CanAir deck H → WithinLimits deck → tape_read (tape_of (history_records deck H)) ≡ record { records = history_records deck H; cut = None }
+history_read deck H can within =
+    let there = edition_within deck 1 in
+    let are = deck_limits deck (edition deck 1) can.made within there in
+    let items = deck_items deck (edition deck 1) can.made within there in
+    let few = are.few in
+    let short = cycles_short (plans_in deck) (length deck.items) 1 (starts H) (map spelling (buckets_of (values_in deck) (air_of deck) H)) (omega arith) (history_small deck H can) in
+    whole_read (history_records deck H) (length (tape_of (history_records deck H))) 0 short (omega arith)
+
 pub beam_carries : (deck : Deck) → CanAir deck (script_history deck) → WithinLimits deck → HasShortPrograms deck → data_of (tape_read (beam_tape_of deck)).records ≡ (tape_read (script_tape deck)).records
 beam_carries deck can within short =
     let H = script_history deck in
     let bs = buckets_of (values_in deck) (air_of deck) H in
     let xs = map spelling bs in
-    let n = length deck.items in
-    let in_range = range deck H can in
-    let small = small_buckets bs in_range in
-    let there = edition_within deck 1 in
-    let are = deck_limits deck (edition deck 1) can.made within there in
-    let items = deck_items deck (edition deck 1) can.made within there in
-    let few = are.few in
-    let records = indexed_records (plans_in deck) n (starts H) xs in
-    let indexed = whole_read records (length (tape_of records)) 0 (cycles_short (plans_in deck) n 1 (starts H) xs (omega arith) small) (omega arith) in
-    let plain = whole_read xs (length (tape_of xs)) 0 (shorter xs small) (omega arith) in
-    ap (λ (t : TapeRead). data_of t.records) indexed ∙ cycles_data deck can.made within short n 1 (starts H) bs in_range (count_buckets deck H) ∙ sym (ap (λ (t : TapeRead). t.records) plain)
+    let indexed = history_read deck H can within in
+    let plain = whole_read xs (length (tape_of xs)) 0 (shorter xs (history_small deck H can)) (omega arith) in
+    ap (λ (t : TapeRead). data_of t.records) indexed ∙ cycles_data deck can.made within short (length deck.items) 1 (starts H) bs (range deck H can) (count_buckets deck H) ∙ sym (ap (λ (t : TapeRead). t.records) plain)

@@ -18,7 +18,7 @@ use Rattle.air_index.proofs.PieceLemmas.{count_cycle}
 use Rattle.air_index.proofs.WriteLemmas.{long_data, long_index}
 
 -- How many of the marks are indexes.
-unfoldable index_count : List Mark → ℕ
+unfoldable pub index_count : List Mark → ℕ
 index_count [] = 0
 index_count (IsIndex m ∷ marks) = suc (index_count marks)
 index_count (IsSlot o ∷ marks) = index_count marks
@@ -43,20 +43,20 @@ index_minors minor a (suc k) =
     let both = index_append (map IsSlot (minor a)) (flat_map (λ m. IsIndex m ∷ map IsSlot (minor m)) (range_with_len (a + 1) k)) in
     omega arith
 
-index_marks : (disks : List Disk) → index_count (marks_of disks) ≡ num_minors disks
+pub index_marks : (disks : List Disk) → index_count (marks_of disks) ≡ num_minors disks
 unfolding marks_of
 index_marks disks = index_minors (minor_cycle (num_minors disks) disks) 0 (num_minors disks)
 
 -- ---- lengths
 
-tape_len : (r : List ℕ) (rs : List (List ℕ)) → length (tape_of (r ∷ rs)) ≡ 4 + length r + length (tape_of rs)
+pub tape_len : (r : List ℕ) (rs : List (List ℕ)) → length (tape_of (r ∷ rs)) ≡ 4 + length r + length (tape_of rs)
 unfolding tape_of record_bytes
 tape_len r rs = let whole = length-append r (tape_rest rs) in omega arith
   where
     tape_rest : List (List ℕ) → List ℕ
     tape_rest rs = flat_map record_bytes rs
 
-index_len : (plans : Plans) (n c q m : ℕ) → length (index_bytes c m (entries_for plans n c q)) ≡ 13 + 4 * n
+pub index_len : (plans : Plans) (n c q m : ℕ) → length (index_bytes c m (entries_for plans n c q)) ≡ 13 + 4 * n
 unfolding entries_for
 index_len plans n c q m =
     let long = long_index c m (map (entry_for plans c q) (range_with_len 0 n)) in
@@ -81,7 +81,7 @@ marks_len plans n c q (IsSlot o ∷ marks) (x ∷ xs) enough =
     let rest = marks_len plans n c (q + 1) marks xs (omega arith) in
     omega arith
 
-abbrev minors_from : Plans → ℕ → ℕ → ℕ
+abbrev pub minors_from : Plans → ℕ → ℕ → ℕ
 minors_from plans c k = sum_by (λ c. num_minors (get_or plans.programs (planned_edition plans c) no_disks).disks) (range_with_len c k)
 
 cycles_len : (plans : Plans) (n c k : ℕ) (xs : List (List ℕ)) → slots_from plans c k ≡ length xs

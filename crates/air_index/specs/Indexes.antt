@@ -48,6 +48,6 @@ index_at bytes = record {
 -- Whether the bytes are an index record.
 unfoldable pub is_index : List ℕ → Bool
 is_index bytes =
-    nat_le 13 (length bytes) && (length bytes == 13 + 4 * number_at 11 2 bytes) && (slice_index bytes 0 == 0) && (number_at 1 4 bytes == 0)
+    (length bytes == 13 + 4 * number_at 11 2 bytes) && (slice_index bytes 0 == 0) && (number_at 1 4 bytes == 0)
     && nat_le 1 (number_at 5 4 bytes) && nat_le 1 (number_at 11 2 bytes) && nat_le (number_at 11 2 bytes) MOST_ITEMS
     && list_all (nat_le 1) (index_entries (number_at 11 2 bytes) bytes)

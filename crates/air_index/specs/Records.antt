@@ -1,5 +1,5 @@
 -- The records of an indexed tape: an index, or a data record, which is a bucket and how many records on the next index is.
-use Rattle.std.specs.Prelude.{◌≡◌, ◌≤◌, ◌<◌, ℕ, ◌^◌, Bool, ◌&&◌, ◌==◌, nat_le, if◌then◌else◌, is_some, List, ◌∷◌, ◌++◌, drop, length, slice_index, Option, Some, None}
+use Rattle.std.specs.Prelude.{◌≡◌, ◌≤◌, ◌<◌, ℕ, ◌^◌, Bool, ◌&&◌, ◌==◌, nat_le, if◌then◌else◌, is_some, List, ◌∷◌, ◌++◌, drop, slice_index, Option, Some, None}
 use Rattle.byteorder.specs.Endian.{big_bytes}
 use Rattle.air_model.specs.Buckets.{Bucket, IsInRange, bucket_at, bucket_in, number_at, spelling}
 use Rattle.air_index.specs.Indexes.{IsIndexRecord, index_at, is_index}
@@ -29,7 +29,7 @@ IsNoRecord bytes = (r : Indexed) → IsRecord bytes r → ⊥
 
 -- Whether the bytes are a data record.
 unfoldable pub is_data : List ℕ → Bool
-is_data bytes = nat_le 5 (length bytes) && (slice_index bytes 0 == 1) && nat_le 1 (number_at 1 4 bytes) && is_some (bucket_in (drop 5 bytes))
+is_data bytes = (slice_index bytes 0 == 1) && nat_le 1 (number_at 1 4 bytes) && is_some (bucket_in (drop 5 bytes))
 
 -- What the bytes of a data record say, if they are one.
 unfoldable pub payload_at : List ℕ → Option Indexed

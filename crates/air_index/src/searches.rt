@@ -2,9 +2,9 @@
 
 use crate::sought::Sought;
 
-/// What the record is to be that is waited for.
+/// The stage of a search: which record it waits for.
 #[derive(Clone, Copy)]
-pub(crate) enum Wanted {
+pub(crate) enum SearchStage {
     /// The first record that is opened.
     First,
     /// An index record, to which the first record leads.
@@ -22,6 +22,6 @@ pub(crate) struct Search {
     pub(crate) skip: u32,
     /// The place of that one.
     pub(crate) place: u64,
-    /// What it is to be.
-    pub(crate) wanted: Wanted,
+    /// Which one it is.
+    pub(crate) stage: SearchStage,
 }

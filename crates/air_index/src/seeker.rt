@@ -9,7 +9,7 @@ ghost use Rattle.bucket_codec.specs.Readers.{only_cut_at};
 ghost use Rattle.air_index.specs.Searches.{seeker_tells};
 ghost use Rattle.air_index.specs.Seeks.{sought};
 
-use crate::searches::{Search, Wanted};
+use crate::searches::{Search, SearchStage};
 use crate::sought::Sought;
 use crate::steps::after;
 use bucket_codec::{TapeFault, TapeReader};
@@ -23,9 +23,9 @@ pub struct Seeker {
 }
 
 impl Model for Seeker {
-    ghost use Rattle.air_index.specs.Searches.{IsInReach, Seeking};
+    ghost use Rattle.air_index.specs.Searches.{IsInReach, SeekerState};
 
-    ghost Value = { Seeking };
+    ghost Value = { SeekerState };
 
     ghost view = { λ s. record { item = s.item; search = s.search } };
 
@@ -42,7 +42,7 @@ impl Seeker {
             search: Search {
                 skip: from,
                 place: u64::from(from),
-                wanted: Wanted::First,
+                stage: SearchStage::First,
             },
         }
     }
@@ -58,11 +58,11 @@ impl Seeker {
     pub fn end(&self) -> Sought
         ensures { result ≡ seeker_tells self.now [] }
     {
-        match self.search.wanted {
-            Wanted::First => Sought::Lost { opens: 0 },
-            Wanted::Index => Sought::Lost { opens: 1 },
-            Wanted::Item { opens } => Sought::Lost { opens },
-            Wanted::Nothing { answer } => answer,
+        match self.search.stage {
+            SearchStage::First => Sought::Lost { opens: 0 },
+            SearchStage::Index => Sought::Lost { opens: 1 },
+            SearchStage::Item { opens } => Sought::Lost { opens },
+            SearchStage::Nothing { answer } => answer,
         }
     }
 }

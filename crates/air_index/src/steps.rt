@@ -11,7 +11,7 @@ ghost use Rattle.air_index.specs.Seeks.{first_told, has_item, index_told, item_t
 use crate::index_view::IndexView;
 use crate::reading::indexed;
 use crate::records::Indexed;
-use crate::searches::{Search, Wanted};
+use crate::searches::{Search, SearchStage};
 use crate::sought::Sought;
 use bucket_codec::{BucketView, ViewKind};
 
@@ -24,22 +24,22 @@ fn ended(answer: Sought) -> Search
     Search {
         skip: 0,
         place: 0,
-        wanted: Wanted::Nothing { answer },
+        stage: SearchStage::Nothing { answer },
     }
 }
 
 /// A search that waits for the record `wait` records on.
-fn ahead(wanted: Wanted, place: u64, wait: u32) -> Search
+fn ahead(stage: SearchStage, place: u64, wait: u32) -> Search
     requires some { 1 ≤ wait }
     requires fits { place + wait < 2 ^ 64 }
-    ensures wanted { result.wanted ≡ wanted }
+    ensures stage { result.stage ≡ stage }
     ensures place { result.place ≡ place + wait }
     ensures skip { result.skip + 1 ≡ wait }
 {
     Search {
         skip: wait - 1,
         place: place + u64::from(wait),
-        wanted,
+        stage,
     }
 }
 
@@ -92,7 +92,7 @@ fn index_followed(item: u16, place: u64, opens: u32, index: &IndexView<'_>) -> S
     if item >= index.count() {
         return ended(Sought::Lost { opens });
     }
-    ahead(Wanted::Item { opens }, place, index.entry(item))
+    ahead(SearchStage::Item { opens }, place, index.entry(item))
 }
 
 /// The search after the record to which the first record leads.
@@ -118,7 +118,7 @@ fn data_followed(item: u16, place: u64, wait: u32, bucket: &BucketView<'_>) -> S
     if has_item(bucket, item) {
         ended(found(bucket, place, 1))
     } else {
-        ahead(Wanted::Index, place, wait)
+        ahead(SearchStage::Index, place, wait)
     }
 }
 
@@ -138,14 +138,14 @@ fn first_opened(item: u16, place: u64, bytes: &[u8]) -> Search
 /// The search after the record that it waited for.
 fn opened(item: u16, search: Search, bytes: &[u8]) -> Search
     requires { IsInReach search }
-    ensures told { (records : List (List ℕ)) → told_after item result records ≡ told_from item search.place search.wanted (bytes.now ∷ records) }
+    ensures told { (records : List (List ℕ)) → told_after item result records ≡ told_from item search.place search.stage (bytes.now ∷ records) }
     ensures reach { IsInReach result }
 {
-    match search.wanted {
-        Wanted::First => first_opened(item, search.place, bytes),
-        Wanted::Index => index_opened(item, search.place, bytes),
-        Wanted::Item { opens } => ended(item_opened(item, search.place, opens + 1, bytes)),
-        Wanted::Nothing { .. } => search,
+    match search.stage {
+        SearchStage::First => first_opened(item, search.place, bytes),
+        SearchStage::Index => index_opened(item, search.place, bytes),
+        SearchStage::Item { opens } => ended(item_opened(item, search.place, opens + 1, bytes)),
+        SearchStage::Nothing { .. } => search,
     }
 }
 
@@ -161,6 +161,6 @@ pub(crate) fn after(item: u16, search: Search, bytes: &[u8]) -> Search
     Search {
         skip: search.skip - 1,
         place: search.place,
-        wanted: search.wanted,
+        stage: search.stage,
     }
 }

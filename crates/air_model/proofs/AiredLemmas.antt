@@ -1,5 +1,5 @@
 -- The buckets of a history are those that fit and are the history's; they are in range, and their bytes are read back.
-use Rattle.std.proofs.Common.{◌≡◌, ℕ, zero, suc, ◌+◌, ◌-◌, ◌<◌, ◌≤◌, true, ◌==◌, Option, Some, None, List, [], ◌∷◌, length, map, get_or, refl, sym, ◌∙◌, ap, subst, inl, inr, arith, ◌↔◌, All}
+use Rattle.std.proofs.Common.{◌≡◌, ℕ, zero, suc, ◌+◌, ◌-◌, ◌<◌, ◌≤◌, Bool, true, false, cond, ◌==◌, Option, Some, None, List, [], ◌∷◌, length, map, get_or, refl, sym, ◌∙◌, ap, subst, inl, inr, arith, ◌↔◌, All}
 use Rattle.std.specs.Prelude.{Contains, IfSome, IsTrue}
 use Rattle.std.specs.List.{flat_map, range_with_len}
 use Rattle.std.proofs.lemmas.Bool.{and_from, and_parts, eq-eqb, eqb-true, le-leb, leb-true, lt-ltb, ltb-true}
@@ -8,8 +8,8 @@ use Rattle.std.proofs.lemmas.List.FromFn.{get_or-map-range_with_len, get_or-rang
 use Rattle.air_base.specs.declared.verdicts.Policy.{Policy}
 use Rattle.air_base.specs.declared.verdicts.Policy.TheVariants.{FMatrix, Datacycle, RMatrix}
 use Rattle.air_history.specs.declared.histories.Event.{Event}
-use Rattle.air_history.specs.Histories.{starts}
-use Rattle.air_history.specs.Columns.{scheme_of, policy_entries}
+use Rattle.air_history.specs.Histories.{front, starts}
+use Rattle.air_history.specs.Columns.{Scheme, aired_entries, group_column, has_groups, policy_entries}
 use Rattle.air_history.specs.Tables.{values_of}
 use Rattle.air_history.specs.Reads.{read_value}
 use Rattle.air_model.specs.Buckets.{Bucket}
@@ -93,6 +93,13 @@ entries_long FMatrix n H c j = length-map-range_with_len _ 0 n
 entries_long Datacycle n H c j = length-map-range_with_len _ 0 n
 entries_long RMatrix n H c j = length-map-range_with_len _ 0 n
 
+pub scheme_long : (scheme : Scheme) (n : ℕ) (H : List Event) (c j : ℕ) → length (aired_entries scheme n H c j) ≡ n
+scheme_long scheme n H c j = by (has_groups scheme)
+  where
+    by : (b : Bool) → length (cond b (group_column scheme.group n (front H c) j) (policy_entries scheme.policy n H c j)) ≡ n
+    by true = length-map-range_with_len _ 0 n
+    by false = entries_long scheme.policy n H c j
+
 own_body_fits : (values : List ℕ) (air : Air) (H : List Event) (c : ℕ) (o : Option ℕ) → body_fits air o (body_of values air H c o) ≡ true
 unfolding body_fits body_of
 own_body_fits values air H c None = eq-eqb air.items air.items refl
@@ -101,16 +108,16 @@ own_body_fits values air H c (Some i) = by air.scheme.policy
     v : ℕ
     v = read_value (values_of values) H (record { item = i; cycle = c })
 
-    es : Policy → List ℕ
-    es p = policy_entries p air.items H c i
+    es : List ℕ
+    es = aired_entries air.scheme air.items H c i
 
-    fit : (p : Policy) → (length (es p) == air.items) ≡ true
-    fit p = eq-eqb (length (es p)) air.items (entries_long p air.items H c i)
+    fit : (length es == air.items) ≡ true
+    fit = eq-eqb (length es) air.items (scheme_long air.scheme air.items H c i)
 
-    by : (p : Policy) → body_fits (record air { scheme = scheme_of p }) (Some i) (aired_as p i v (es p)) ≡ true
-    by FMatrix = and_from _ _ (and_from (i == i) true (eq-eqb i i refl) refl) (fit FMatrix)
-    by Datacycle = and_from _ _ (and_from (i == i) true (eq-eqb i i refl) refl) (fit Datacycle)
-    by RMatrix = and_from _ _ (and_from (i == i) true (eq-eqb i i refl) refl) (fit RMatrix)
+    by : (p : Policy) → body_fits (record air { scheme = record { policy = p; group = air.scheme.group } }) (Some i) (aired_as p i v es) ≡ true
+    by FMatrix = and_from _ _ (and_from (i == i) true (eq-eqb i i refl) refl) fit
+    by Datacycle = and_from _ _ (and_from (i == i) true (eq-eqb i i refl) refl) fit
+    by RMatrix = and_from _ _ (and_from (i == i) true (eq-eqb i i refl) refl) fit
 
 own_fits : (values : List ℕ) (air : Air) (H : List Event) (c s : ℕ) → s < length (slots_at air c) → fits air (bucket_of values air H air.version c s) ≡ true
 unfolding fits bucket_of

@@ -1,5 +1,5 @@
 -- A whole run of two updaters and two cycles: what it is, what its buckets carry, and what is no such run.
-use Rattle.std.proofs.Common.{◌≡◌, ℕ, zero, suc, ◌<◌, ◌^◌, true, false, Some, List, [], ◌∷◌, All, refl, sym, ap, subst, arith, Contains, sum_by}
+use Rattle.std.proofs.Common.{◌≡◌, ℕ, zero, suc, ◌<◌, ◌≤◌, ◌^◌, true, false, Some, List, [], ◌∷◌, All, refl, sym, ap, subst, arith, Contains, IfSome, sum_by}
 use Rattle.std.specs.Prelude.{slice_get}
 use Rattle.std.proofs.lemmas.List.Elements.{All-from_recursion}
 use Rattle.air_history.specs.declared.histories.Event.{Event}
@@ -8,9 +8,10 @@ use Rattle.air_history.specs.Columns.{column_entry}
 use Rattle.air_history.specs.Descents.{descends, descends_in}
 use Rattle.air_history.specs.Histories.{cycle_at, front, is_start, reads, starts, writer, writer_before, writes}
 use Rattle.air_history.specs.Places.{greatest, last_place}
-use Rattle.air_history.specs.Tables.{table, value_after, value_on_base, write_of}
+use Rattle.air_history.specs.Reads.{read_value}
+use Rattle.air_history.specs.Tables.{table, value_after, value_on_base, values_of, write_of}
 use Rattle.air_history.specs.UpdateRules.{has_repeat, update_fault}
-use Rattle.air_model.specs.Aired.{air_of, body_of, bucket_of, buckets_of}
+use Rattle.air_model.specs.Aired.{IsAiredBucket, air_of, body_of, bucket_of, buckets_of}
 use Rattle.air_model.specs.AiredItems.{AirsItems, IsAiredItem, carries_in}
 use Rattle.air_model.specs.Batches.{aired_by, last_buckets}
 use Rattle.air_model.specs.Buckets.{Bucket, Column, Idle, capped_body, capped_entries}
@@ -18,6 +19,7 @@ use Rattle.air_model.specs.Decks.{Deck, IsDeck, IsUpdate, IsWhole, disks_in, is_
 use Rattle.air_model.specs.Disks.{Disk, cut, order, order_with}
 use Rattle.air_model.specs.Programs.{chunk, chunk_len, least_common_multiple, minor_cycle, num_chunks, num_minors, program}
 use Rattle.air_model.specs.Runs.{IsRun, Run}
+use Rattle.air_model.specs.Sessions.{read_in}
 use Rattle.air_model.specs.declared.reports.LookLine.{LookLine}
 use Rattle.air_model.proofs.ClosingLemmas.{whole_closing}
 use Rattle.air_model.proofs.DeckLemmas.{each_edition}
@@ -36,6 +38,8 @@ two_is_deck = record {
   some = pair_is_deck.some;
   version = pair_is_deck.version;
   most = pair_is_deck.most;
+  group = pair_is_deck.group;
+  grouped = pair_is_deck.grouped;
   values = pair_is_deck.values;
   sizes = each_edition (λ specs. sum_by (λ d. d.size) specs ≡ 2) two refl refl;
   aired = each_edition (All (λ d. (0 < d.size) × (0 < d.freq))) two refl (pair_is_deck.aired 0 (omega arith));
@@ -95,6 +99,11 @@ first_cycle : last_buckets (values_in two) (air_of two) (first ∷ Start ∷ [])
 unfolding is_start starts bucket_of capped_entries capped_body body_of front table value_after value_on_base write_of column_entry greatest last_place writer writer_before writes reads descends descends_in cycle_at order order_with cut program least_common_multiple num_minors num_chunks chunk_len chunk minor_cycle
 first_cycle = refl
 
+-- In the second cycle item 0 is aired with that value again.
+still_aired : IsAiredBucket (values_in two) (air_of two) history (bucket 2 0 11)
+unfolding is_start starts bucket_of capped_entries capped_body body_of front table value_after value_on_base write_of column_entry greatest last_place writer writer_before writes reads descends descends_in cycle_at order order_with cut program least_common_multiple num_minors num_chunks chunk_len chunk minor_cycle
+still_aired = record { from_one = omega arith; started = omega arith; same = refl }
+
 -- Both batches air all that the history airs.
 aired_all : buckets_of (values_in two) (air_of two) history ≡ aired_by (values_in two) (air_of two) both_batches
 aired_all = by_batches.aired
@@ -102,6 +111,24 @@ aired_all = by_batches.aired
 -- In each cycle each item is aired once, with its value.
 airs : AirsItems two history (buckets_of (values_in two) (air_of two) history)
 airs = items_aired two history two_is_deck
+
+-- The two items of one cycle are aired by two buckets.
+abbrev two_buckets : List Bucket
+two_buckets = bucket 1 0 10 ∷ bucket 1 1 20 ∷ []
+
+airs_both : AirsItems pair (Start ∷ []) two_buckets
+unfolding is_start starts front table cut order order_with
+airs_both = record {
+  times = each;
+  values = All-from_recursion (λ b. IfSome (read_in b.cycle b.body) (λ r. r.value ≡ read_value (values_of (values_in pair)) (Start ∷ []) (record { item = r.item; cycle = r.cycle }))) two_buckets (refl, (refl, tt));
+}
+  where
+    each : (c i : ℕ) → 1 ≤ c → c ≤ 1 → i < 2 → IsAiredItem pair c i two_buckets
+    each zero i from till below = absurd (omega arith)
+    each (suc zero) zero from till below = record { number = 0; disk = record { items = 0 ∷ 1 ∷ []; freq = 1 }; there = refl; on = (0, omega arith, refl); times = refl }
+    each (suc zero) (suc zero) from till below = record { number = 0; disk = record { items = 0 ∷ 1 ∷ []; freq = 1 }; there = refl; on = (1, omega arith, refl); times = refl }
+    each (suc zero) (suc (suc i)) from till below = absurd (omega arith)
+    each (suc (suc c)) i from till below = absurd (omega arith)
 
 -- The buckets of only the first cycle, or of only the second, don't air the items.
 not_airs : (AirsItems two history (bucket 1 0 11 ∷ bucket 1 1 20 ∷ []) → ⊥) × (AirsItems two history (bucket 2 0 11 ∷ bucket 2 1 21 ∷ []) → ⊥)

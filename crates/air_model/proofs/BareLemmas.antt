@@ -14,7 +14,7 @@ use Rattle.air_base.specs.declared.verdicts.ReadOf.{ReadOf}
 use Rattle.air_history.specs.declared.histories.Event.{Event}
 use Rattle.air_history.specs.Tables.{values_of}
 use Rattle.air_history.specs.Reads.{read_value}
-use Rattle.air_history.specs.Clashes.{clash_by_history, is_late}
+use Rattle.air_history.specs.Clashes.{clash_of, is_late}
 use Rattle.air_history.proofs.ClashLemmas.{cond_same}
 use Rattle.air_model.specs.Buckets.{Body, Bucket, Column, Idle, Vector}
 use Rattle.air_model.specs.Reads.{Read}
@@ -132,11 +132,11 @@ read_bare c (Vector item value entries) = refl
 
 module _ (V : List ℕ) (air : Air) (H : List Event) (reader : Reader) where
   abbrev judge : Judge
-  judge = by_history air.scheme V H
+  judge = by_history air.scheme air.items V H
 
   clash_bare : (R : List Read) (x : Read) → judge.clash (map bare_read R) (bare_read x) ≡ judge.clash R x
   unfolding by_history bare_read
-  clash_bare R x = ap (λ S. clash_by_history air.scheme.policy H S (place_of x)) (places_bare R)
+  clash_bare R x = ap (λ S. clash_of air.scheme air.items H S (place_of x)) (places_bare R)
 
   line_bare : (q a : ℕ) (kind : VerdictKind) (R : List Read) → line_of judge q a kind (map bare_read R) ≡ line_of judge q a kind R
   unfolding line_of by_history bare_read
@@ -270,8 +270,8 @@ module _ (V : List ℕ) (air : Air) (H : List Event) (reader : Reader) where
       ∙ iterate_bare (end_query judge air reader) end_query_bare (length reader.queries) (hear_all judge air reader heard start)
 
 pub bare_is : (values : List ℕ) (air : Air) (H : List Event) (reader : Reader) (heard : List (Option Bucket)) →
-    let s = session (by_history air.scheme values H) air reader heard in
-    let t = session (by_history air.scheme values H) air reader (map (option_map bare) heard) in
+    let s = session (by_history air.scheme air.items values H) air reader heard in
+    let t = session (by_history air.scheme air.items values H) air reader (map (option_map bare) heard) in
     (t.lines ≡ s.lines) × (t.counts ≡ s.counts)
 unfolding bare_state
 bare_is V air H reader heard =

@@ -5,12 +5,12 @@ use Rattle.std.proofs.lemmas.List.{append-nil}
 use Rattle.std.proofs.lemmas.List.Elements.{All-head, All-tail}
 use Rattle.air_history.specs.declared.histories.Event.{Event}
 use Rattle.air_history.specs.declared.histories.Event.TheVariants.{Start}
-use Rattle.air_history.specs.Histories.{is_start, starts}
+use Rattle.air_history.specs.Histories.{is_start, starts, events_in}
 use Rattle.air_model.specs.Aired.{Air, air_of, buckets_of, cycle_buckets}
 use Rattle.air_model.specs.Buckets.{Bucket}
 use Rattle.air_model.specs.Closings.{GoesOnWithout}
 use Rattle.air_model.specs.Decks.{Deck, values_in}
-use Rattle.air_model.specs.Batches.{AirsByBatches, EndsWithStart, aired_by, events_in, last_buckets}
+use Rattle.air_model.specs.Batches.{AirsByBatches, EndsWithStart, aired_by, last_buckets}
 use Rattle.air_model.proofs.AiringLemmas.{buckets_behind, same_buckets}
 use Rattle.air_model.proofs.StartLemmas.{starts_append, starts_none, starts_one}
 

@@ -88,3 +88,13 @@ first_of_two :
     × (reading (take 23 (set first_bytes 0 0x45)) ≡ Err (Short 23))
 unfolding reading is_shaped is_entry is_placed entry_count entries_at raw_entries entry_told bucket_at body_at
 first_of_two = (refl, refl, refl, refl, refl)
+
+-- A count of 0 in a late cycle, and cycle 0 in a late slot, are out of range too: no number takes a byte of its neighbour.
+own_bytes : (reading (set (set idle_bytes 7 0) 8 1) ≡ Err Shape) × (reading (set (set idle_bytes 11 0) 12 1) ≡ Err Shape)
+unfolding reading is_shaped is_entry is_placed entry_count entries_at raw_entries entry_told bucket_at body_at
+own_bytes = (refl, refl)
+
+-- One item is the least.
+least_items : (reading (set idle_bytes 7 1) ≡ Ok (record idle { body = Idle 1 })) × (reading (set idle_bytes 7 0) ≡ Err Shape)
+unfolding reading is_shaped is_entry is_placed entry_count entries_at raw_entries entry_told bucket_at body_at
+least_items = (refl, refl)

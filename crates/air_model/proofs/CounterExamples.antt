@@ -28,7 +28,7 @@ use Rattle.air_model.specs.Programs.{chunk, chunk_len, least_common_multiple, mi
 use Rattle.air_model.specs.ReceiverLaws.{IsTrueSession, session_of}
 use Rattle.air_model.specs.SessionLaws.{IsExactLine, IsOfReader, follows_query}
 use Rattle.air_model.specs.Sessions.{SessionLine, abort, accept_if_whole, copy_of, count_copied, count_dozed, count_foreign, count_late, count_opened, count_refused, decide, drop_copy, end, end_aged, end_query, hear, hear_all, hear_read, hold, is_unusable, judge_read, line_of, next_attempt, next_query, offer, open_bucket, query_of, reader_of, session, settle, turn, turn_with, wanted, with_line}
-use Rattle.air_model.proofs.SessionExamples.{all_of, bucket, by_both, chained_deck, counts_with, deck, item, line, pair, read, s, set_to, swapped_deck, u, update}
+use Rattle.air_model.proofs.SessionExamples.{all_of, bucket, by_both, chained_deck, counts_with, item, line, pair, read, s, set_to, swapped_deck, u, update}
 
 -- ---- decks and their histories
 
@@ -172,7 +172,7 @@ one_abort = refl
 -- The verdict isn't exact: the reads are consistent.
 not_exact : IsTrueSession pair (script_history pair) 0 heard_written → ⊥
 unfolding script_history event_of consistent last_alone runs_alone descends_from origin writer writer_before last_place writes front
-not_exact h = let exact : IsExactLine 1 (script_history pair) (reader_of pair 0) abort_line = subst (All (IsExactLine 1 (script_history pair) (reader_of pair 0))) one_abort (h.exact refl) 0 abort_line (omega arith) in
+not_exact h = let exact : IsExactLine 1 (script_history pair) (reader_of pair 0) abort_line = subst (All (IsExactLine 1 (script_history pair) (reader_of pair 0))) one_abort (h.exact refl refl) 0 abort_line (omega arith) in
     (exact.aborted.0 tt).1 refl
 
 -- ---- two held reads

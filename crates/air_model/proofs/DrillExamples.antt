@@ -1,9 +1,9 @@
 -- The first draws of the drill of seed 1 and size 1, by an independent program, and the parts of it that aren't drawn.
-use Rattle.std.specs.Prelude.{◌≡◌, ℕ, [], ◌∷◌, false, Some, None, map, get_or, refl}
+use Rattle.std.specs.Prelude.{◌≡◌, ℕ, [], ◌∷◌, false, Some, None, map, get_or, length, refl}
 use Rattle.air_history.specs.declared.updates.Write.{Write}
 use Rattle.air_model.specs.Decks.{rates_in, values_in}
 use Rattle.air_model.specs.Draws.{draw, draw_each, generator}
-use Rattle.air_model.specs.Drills.{dealt_to, draw_item, draw_query, draw_update, drill_deck, drill_script}
+use Rattle.air_model.specs.Drills.{dealt_to, draw_item, draw_query, draw_update, drill_deck, drill_disks, drill_script}
 
 -- The first three items.
 first_items : (draw_each 3 (λ i. draw_item) (generator 1 1)).0
@@ -52,3 +52,22 @@ script_of_ten = refl
 -- Six updates go to four updaters in turn.
 dealt : map (dealt_to {A = ℕ} (10 ∷ 11 ∷ 12 ∷ 13 ∷ 14 ∷ 15 ∷ [])) (0 ∷ 1 ∷ 2 ∷ 3 ∷ []) ≡ (10 ∷ 14 ∷ []) ∷ (11 ∷ 15 ∷ []) ∷ (12 ∷ []) ∷ (13 ∷ []) ∷ []
 dealt = refl
+
+-- ---- another seed and another size, of which the seed is the greater
+
+other_values : values_in (drill_deck 3 2) ≡ 417 ∷ 231 ∷ 297 ∷ 338 ∷ 720 ∷ 300 ∷ 872 ∷ 547 ∷ 991 ∷ 4 ∷ 452 ∷ 111 ∷ 906 ∷ 476 ∷ 885 ∷ 706 ∷ 21 ∷ 487 ∷ 517 ∷ 342 ∷ []
+unfolding draw draw_each draw_update draw_query drill_deck
+other_values = refl
+
+other_queries : get_or (drill_deck 3 2).queries 6 [] ≡ (8 ∷ 15 ∷ 2 ∷ []) ∷ (15 ∷ 2 ∷ 9 ∷ 16 ∷ []) ∷ []
+unfolding draw draw_each draw_update draw_query drill_deck
+other_queries = refl
+
+-- The ethers have the drill's seed, and the script commits twenty updates and starts six cycles.
+own_seed : ((drill_deck 3 2).settings.seed ≡ 3) × (length (drill_deck 3 2).script ≡ 26)
+unfolding drill_deck
+own_seed = (refl, refl)
+
+-- Forty items: five are aired four times a cycle, ten twice, and 25 once.
+disks_of_forty : drill_disks 40 ≡ record { size = 5; freq = 4 } ∷ record { size = 10; freq = 2 } ∷ record { size = 25; freq = 1 } ∷ []
+disks_of_forty = refl

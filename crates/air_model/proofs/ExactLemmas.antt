@@ -50,9 +50,9 @@ exact_from version H query Unfinished R t near =
       unfinished = (λ _. (near, t.0, missing), λ _. refl);
     }
 
-pub exact : (values : List ℕ) (air : Air) (H : List Event) (reader : Reader) (heard : List (Option Bucket)) → air.scheme.policy ≡ FMatrix → QueriesFilled reader → CyclesFromOne air heard →
-    All (IsExactLine air.version H reader) (session (by_history air.scheme values H) air reader heard).lines
-exact V air H reader heard f filled cycles k d l =
-    let line = get_or (session (by_history air.scheme V H) air reader heard).lines k d in
-    let told = verdict V air H reader heard f filled cycles k d l in
+pub exact : (values : List ℕ) (air : Air) (H : List Event) (reader : Reader) (heard : List (Option Bucket)) → air.scheme.policy ≡ FMatrix → air.scheme.group ≡ 0 → QueriesFilled reader → CyclesFromOne air heard →
+    All (IsExactLine air.version H reader) (session (by_history air.scheme air.items values H) air reader heard).lines
+exact V air H reader heard f g filled cycles k d l =
+    let line = get_or (session (by_history air.scheme air.items V H) air reader heard).lines k d in
+    let told = verdict V air H reader heard f g filled cycles k d l in
     exact_from air.version H (get_or reader.queries line.verdict.query []) line.verdict.kind (reads_at line) told.0 told.1

@@ -13,7 +13,7 @@ use Rattle.air_history.specs.ClashLaws.{HasAiredEntries, HasCappedEntries, HaveA
 use Rattle.air_history.proofs.AgeLemmas.{full_is_capped, oldest_with, span_push}
 use Rattle.air_model.specs.Buckets.{capped_entries, has_ages}
 use Rattle.air_model.specs.SessionLaws.{are_far}
-use Rattle.air_model.proofs.AiredLemmas.{entries_long}
+use Rattle.air_model.proofs.AiredLemmas.{scheme_long}
 use Rattle.air_model.proofs.CapLemmas.{entries_by, full_entries}
 
 -- ---- one read
@@ -26,7 +26,7 @@ told_by scheme n H v c j = record { item = j; cycle = c; entries = capped_entrie
 pub has_capped : (scheme : Scheme) (n : ℕ) (H : List Event) (v c j : ℕ) → 1 ≤ c → j < n → HasCappedEntries scheme n H (told_by scheme n H v c j)
 has_capped scheme n H v c j one within =
     let es = aired_entries scheme n H c j in
-    let long : length es ≡ n = entries_long scheme.policy n H c j in
+    let long : length es ≡ n = scheme_long scheme n H c j in
     entries_by (λ l. HasCappedEntries scheme n H (record { item = j; cycle = c; entries = l })) v c es
     (record {
       cycle = one;

@@ -6,7 +6,7 @@ use Rattle.air_base.specs.declared.verdicts.Policy.TheVariants.{FMatrix, Datacyc
 use Rattle.air_history.specs.declared.histories.Event.{Event}
 use Rattle.air_history.specs.declared.histories.Event.TheVariants.{Commit, Start}
 use Rattle.air_history.specs.Histories.{front, is_start, starts}
-use Rattle.air_history.specs.Columns.{policy_entries, column, vector}
+use Rattle.air_history.specs.Columns.{aired_entries, column, group_column, has_groups, policy_entries, vector}
 use Rattle.air_history.specs.Tables.{table, values_of}
 use Rattle.air_history.specs.Reads.{read_value}
 use Rattle.air_model.specs.Buckets.{Body, capped_bucket}
@@ -32,26 +32,36 @@ front_append (Start ∷ H) later (suc zero) l = refl
 front_append (Start ∷ H) later (suc (suc c)) l = ap (λ G. Start ∷ G) (front_append H later (suc c) (let more = starts_start H in omega arith))
 front_append (Commit by seq u ∷ H) later (suc c) l = ap (λ G. Commit by seq u ∷ G) (front_append H later (suc c) (let same = starts_commit H (Commit by seq u) refl in omega arith))
 
--- The body of a slot, by the front of its cycle.
-body_by : (values : List ℕ) (air : Air) (G : List Event) (item : ℕ) → Policy → Body
-body_by values air G item FMatrix = aired_as FMatrix item (table (values_of values) G item) (column air.items G item)
-body_by values air G item Datacycle = aired_as Datacycle item (table (values_of values) G item) (vector air.items G)
-body_by values air G item RMatrix = aired_as RMatrix item (table (values_of values) G item) (vector air.items G)
+-- What a policy airs with an item, by the front of the cycle.
+policy_front : Policy → ℕ → List Event → ℕ → List ℕ
+policy_front FMatrix n G item = column n G item
+policy_front Datacycle n G item = vector n G
+policy_front RMatrix n G item = vector n G
 
-body_is : (values : List ℕ) (air : Air) (H : List Event) (c item : ℕ) (p : Policy) →
-    aired_as p item (read_value (values_of values) H (record { item = item; cycle = c })) (policy_entries p air.items H c item) ≡ body_by values air (front H c) item p
+policy_is : (p : Policy) (n : ℕ) (H : List Event) (c item : ℕ) → policy_entries p n H c item ≡ policy_front p n (front H c) item
+unfolding policy_front
+policy_is FMatrix n H c item = refl
+policy_is Datacycle n H c item = refl
+policy_is RMatrix n H c item = refl
+
+-- The body of a slot, by the front of its cycle.
+body_by : (values : List ℕ) (air : Air) (G : List Event) (item : ℕ) → Body
+body_by values air G item = aired_as air.scheme.policy item (table (values_of values) G item)
+    (cond (has_groups air.scheme) (group_column air.scheme.group air.items G item) (policy_front air.scheme.policy air.items G item))
+
+body_is : (values : List ℕ) (air : Air) (H : List Event) (c item : ℕ) →
+    aired_as air.scheme.policy item (read_value (values_of values) H (record { item = item; cycle = c })) (aired_entries air.scheme air.items H c item) ≡ body_by values air (front H c) item
 unfolding body_by
-body_is values air H c item FMatrix = refl
-body_is values air H c item Datacycle = refl
-body_is values air H c item RMatrix = refl
+body_is values air H c item = ap (λ es. aired_as air.scheme.policy item (table (values_of values) (front H c) item)
+    (cond (has_groups air.scheme) (group_column air.scheme.group air.items (front H c) item) es)) (policy_is air.scheme.policy air.items H c item)
 
 body_later : (values : List ℕ) (air : Air) (H later : List Event) (c : ℕ) (o : Option ℕ) → c ≤ starts H → body_of values air (H ++ later) c o ≡ body_of values air H c o
 unfolding body_of
 body_later values air H later c None l = refl
 body_later values air H later c (Some item) l =
-    body_is values air (H ++ later) c item air.scheme.policy
-    ∙ ap (λ G. body_by values air G item air.scheme.policy) (front_append H later c l)
-    ∙ sym (body_is values air H c item air.scheme.policy)
+    body_is values air (H ++ later) c item
+    ∙ ap (λ G. body_by values air G item) (front_append H later c l)
+    ∙ sym (body_is values air H c item)
 
 pub later : (values : List ℕ) (air : Air) (H later : List Event) (v c s : ℕ) → c ≤ starts H →
     bucket_of values air (H ++ later) v c s ≡ bucket_of values air H v c s

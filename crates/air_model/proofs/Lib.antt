@@ -63,4 +63,6 @@ mod RunExamples
 mod PartExamples
 mod RowExamples
 mod AiredRunExamples
+mod GroupExamples
 mod CounterExamples
+mod EdgeExamples

@@ -58,10 +58,10 @@ sound_line = kept (IsSoundLine (values_in pair) FMatrix (script_history pair)) t
 
 pub own_line : IsOfReader (reader_of pair 0) accept_line
 own_line = kept (IsOfReader (reader_of pair 0))
-    (of_reader (by_entries (scheme_of FMatrix)) (air_of pair) (reader_of pair 0) (all_of pair) (names (scheme_of FMatrix) (values_in pair) (script_history pair)).1 pair_filled (omega arith))
+    (of_reader (by_entries (scheme_of FMatrix)) (air_of pair) (reader_of pair 0) (all_of pair) (names (scheme_of FMatrix) 2 (values_in pair) (script_history pair)).1 pair_filled (omega arith))
 
 pub exact_line : IsExactLine 1 (script_history pair) (reader_of pair 0) accept_line
-exact_line = kept (IsExactLine 1 (script_history pair) (reader_of pair 0)) (true_session.exact refl)
+exact_line = kept (IsExactLine 1 (script_history pair) (reader_of pair 0)) (true_session.exact refl refl)
 
 -- ---- lines of which that doesn't hold
 
@@ -169,8 +169,8 @@ cycles_from_one = All-from_recursion (λ o. IfSome o (λ b. IsTrue (fits (air_of
     (λ _. omega arith, (tt, (λ f. absurd (false≢true f), tt)))
 
 -- Both judges name a held item; a judge that always names item 7 doesn't.
-pub name_held : NamesHeld (by_history (scheme_of FMatrix) (values_in pair) (script_history pair)) × NamesHeld (by_entries (scheme_of FMatrix))
-name_held = names (scheme_of FMatrix) (values_in pair) (script_history pair)
+pub name_held : NamesHeld (by_history (scheme_of FMatrix) 2 (values_in pair) (script_history pair)) × NamesHeld (by_entries (scheme_of FMatrix))
+name_held = names (scheme_of FMatrix) 2 (values_in pair) (script_history pair)
 
 abbrev names_seven : Judge
 names_seven = record { value = λ r. 0; clash = λ R x. Some (record { item = 7; cycle = 0 }) }

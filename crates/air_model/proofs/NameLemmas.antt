@@ -8,8 +8,8 @@ use Rattle.air_base.specs.declared.verdicts.Policy.TheVariants.{FMatrix, Datacyc
 use Rattle.air_base.specs.declared.verdicts.Clash.{Clash}
 use Rattle.air_history.specs.declared.histories.Event.{Event}
 use Rattle.air_history.specs.Reads.{ReadAt, first_cycle, newest_cycle, same_origin}
-use Rattle.air_history.specs.Clashes.{HeardRead, clash_by_entries, clash_by_history, entry_in, entry_of, first_heard, heard_clash, least, lesser, named_clash, newest_heard, read_at}
-use Rattle.air_history.specs.Columns.{Scheme}
+use Rattle.air_history.specs.Clashes.{HeardRead, clash_by_entries, clash_by_history, clash_of, group_clash, entry_in, entry_of, first_heard, heard_clash, least, lesser, named_clash, newest_heard, read_at}
+use Rattle.air_history.specs.Columns.{Scheme, has_groups}
 use Rattle.air_model.specs.Judges.{by_entries, by_history, heard_of, place_of}
 use Rattle.air_model.specs.SessionLaws.{NamesHeld}
 
@@ -88,10 +88,13 @@ entries_names Datacycle R x = cond_names (map read_at R) (nat_le (newest_heard R
     (cond_names (map read_at R) (nat_le x.cycle (entry_in R (newest_heard R) x.item)) _ _ (heard_names _ R) (none_names (map read_at R)))
 entries_names RMatrix R x = cond_names (map read_at R) (nat_le (first_heard R) (entry_of x x.item)) _ _ (heard_names _ R) (none_names (map read_at R))
 
-pub names : (scheme : Scheme) (values : List ℕ) (H : List Event) → NamesHeld (by_history scheme values H) × NamesHeld (by_entries scheme)
+scheme_names : (scheme : Scheme) (n : ℕ) (H : List Event) (R : List ReadAt) (x : ReadAt) → Names R (clash_of scheme n H R x)
+scheme_names scheme n H R x = cond_names R (has_groups scheme) _ _ (named_names (λ r. group_clash H scheme.group n r x) R) (history_names scheme.policy H R x)
+
+pub names : (scheme : Scheme) (n : ℕ) (values : List ℕ) (H : List Event) → NamesHeld (by_history scheme n values H) × NamesHeld (by_entries scheme)
 unfolding by_history by_entries
-names scheme V H = (
-  λ R x c e. subst (λ S. Contains S c.item) (map-map (λ (r : ReadAt). r.item) place_of R) (history_names scheme.policy H (map place_of R) (place_of x) c e),
+names scheme n V H = (
+  λ R x c e. subst (λ S. Contains S c.item) (map-map (λ (r : ReadAt). r.item) place_of R) (scheme_names scheme n H (map place_of R) (place_of x) c e),
   λ R x c e. subst (λ S. Contains S c.item) (ap (map (λ (r : ReadAt). r.item)) (map-map read_at heard_of R) ∙ map-map (λ (r : ReadAt). r.item) place_of R)
       (entries_names scheme.policy (map heard_of R) (heard_of x) c e),
 )

@@ -88,7 +88,7 @@ pub record Parts : Type 0 where
   disks_of_18 : drill_disks 18 ≡ record { size = 2; freq = 4 } ∷ record { size = 4; freq = 2 } ∷ record { size = 12; freq = 1 } ∷ []
   eight_readers : length drill_readers ≡ 8
   last_reader : get_or drill_readers 7 (record { room = 0; age = 0; tries = 0 }) ≡ record { room = 4; age = 8; tries = 3 }
-  settings : drill_settings 7 ≡ record { policy = FMatrix; version = 1; cycles = 10; seed = 7; loss = 5; again = 3; late = 10; monitors = 0; hears = 1000000 }
+  settings : drill_settings 7 ≡ record { policy = FMatrix; version = 1; group = 0; cycles = 10; seed = 7; loss = 5; again = 3; late = 10; monitors = 0; hears = 1000000 }
   fifth_turn : turn_of 5 ≡ None ∷ Some 1 ∷ []
   sixth_turn : turn_of 6 ≡ Some 2 ∷ []
   four_updaters : length (drill_of 3 1 [] [] []).updates ≡ 4

@@ -56,3 +56,13 @@ pub slots_of_large_frequencies : let disks = cut (order (0 ∷ 0 ∷ 0 ∷ [])) 
     num_minors disks ∷ minor_len (num_minors disks) disks ∷ num_minors disks * minor_len (num_minors disks) disks ∷ [] ≡ 245952 ∷ 3 ∷ 737856 ∷ []
 unfolding order order_with cut least_common_multiple num_minors num_chunks chunk_len minor_len
 slots_of_large_frequencies = refl
+
+-- Item 2 is on the second of two disks, which has two chunks; item 3 is on none.
+pub chunks_of_items : let disks = cut (0 ∷ 1 ∷ 2 ∷ []) (spec 1 2 ∷ spec 2 1 ∷ []) in chunks_of disks 0 ∷ chunks_of disks 2 ∷ chunks_of disks 3 ∷ [] ≡ 1 ∷ 2 ∷ 0 ∷ []
+unfolding cut least_common_multiple num_minors num_chunks disk_number chunks_of
+chunks_of_items = refl
+
+-- The least common multiple of 2 and 6 is the third multiple of 2; with 0 it is 0.
+pub common_multiples : least_common_multiple 2 6 ∷ least_common_multiple 6 4 ∷ least_common_multiple 3 0 ∷ [] ≡ 6 ∷ 12 ∷ 0 ∷ []
+unfolding least_common_multiple
+common_multiples = refl

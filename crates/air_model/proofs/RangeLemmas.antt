@@ -16,21 +16,22 @@ use Rattle.air_history.specs.declared.histories.Event.{Event}
 use Rattle.air_history.specs.declared.histories.Event.TheVariants.{Commit, Start}
 use Rattle.air_history.specs.Histories.{cycle_at, front, starts, writer, writes_of}
 use Rattle.air_history.specs.Ages.{capped}
-use Rattle.air_history.specs.Columns.{policy_entries, column_entry, vector_entry}
+use Rattle.air_history.specs.Columns.{Scheme, aired_entries, column_entry, group_column, group_entry, has_groups, policy_entries, vector_entry}
 use Rattle.air_history.proofs.StaleLemmas.{cycle_of}
 use Rattle.air_history.specs.Tables.{table, value_after, value_after_write, value_on_base, values_of, write_of}
 use Rattle.air_history.specs.Reads.{read_value}
+use Rattle.air_history.proofs.GroupLemmas.{group_before}
 use Rattle.air_history.proofs.PlaceLemmas.{greatest_below}
 use Rattle.air_history.proofs.HistoryLemmas.{front_cycle, front_cycle_same, front_prefix, writer_before_some}
 use Rattle.air_model.specs.Buckets.{Body, Bucket, IsInRange, bucket_in, capped_body, count_of, entries_of, item_of, kind_of, most_count, spelling, value_of}
 use Rattle.air_model.specs.Decks.{Deck, IsDeck, IsLegal, values_in}
-use Rattle.air_model.specs.Aired.{air_of, aired_as, body_of, bucket_of, buckets_of, edition_at, slots_at, IsAired}
+use Rattle.air_model.specs.Aired.{scheme_in, air_of, aired_as, body_of, bucket_of, buckets_of, edition_at, slots_at, IsAired}
 use Rattle.air_model.specs.AiredLaws.{CanAir}
 use Rattle.air_model.proofs.BucketLemmas.{ok_from_whole, whole_from_bucket}
 use Rattle.air_model.proofs.CapLemmas.{at_or_none, capped_is_told, capped_under, count_kept, entries_told, item_kept, kind_kept, value_kept}
 use Rattle.air_model.proofs.DeckLemmas.{air, update_is}
 use Rattle.air_model.proofs.EditionLemmas.{edition_is, edition_within}
-use Rattle.air_model.proofs.AiredLemmas.{aired, entries_long, own_from}
+use Rattle.air_model.proofs.AiredLemmas.{aired, own_from, scheme_long}
 
 -- ---- entries are below the cycle
 
@@ -58,6 +59,13 @@ entries_below : (p : Policy) (n : ℕ) (H : List Event) (c j : ℕ) → 1 ≤ c 
 entries_below FMatrix n H c j one = map_below (column_entry (front H c) j) n c (λ i. column_below H c j i one)
 entries_below Datacycle n H c j one = map_below (vector_entry (front H c)) n c (λ i. vector_below H c i one)
 entries_below RMatrix n H c j one = map_below (vector_entry (front H c)) n c (λ i. vector_below H c i one)
+
+scheme_below : (scheme : Scheme) (n : ℕ) (H : List Event) (c j : ℕ) → 1 ≤ c → All (λ e. e < c) (aired_entries scheme n H c j)
+scheme_below scheme n H c j one = by (has_groups scheme)
+  where
+    by : (b : Bool) → All (λ e. e < c) (cond b (group_column scheme.group n (front H c) j) (policy_entries scheme.policy n H c j))
+    by true = map_below (group_entry scheme.group n (front H c) j) n c (λ i. group_before scheme.group n H c j i one)
+    by false = entries_below scheme.policy n H c j one
 
 -- ---- values are below 2^64
 
@@ -131,11 +139,14 @@ body_in_range deck H can c one (Some i) h = by deck.settings.policy
     v : ℕ
     v = read_value (values_of (values_in deck)) H (record { item = i; cycle = c })
 
-    es : Policy → List ℕ
-    es p = policy_entries p n H c i
+    es : List ℕ
+    es = aired_entries (scheme_in deck) n H c i
 
-    long : (p : Policy) → length (es p) ≡ n
-    long p = entries_long p n H c i
+    long : length es ≡ n
+    long = scheme_long (scheme_in deck) n H c i
+
+    low : All (λ e. e < c) es
+    low = scheme_below (scheme_in deck) n H c i one
 
     some : 0 < n
     some = can.made.some
@@ -143,10 +154,10 @@ body_in_range deck H can c one (Some i) h = by deck.settings.policy
     most : n ≤ most_count deck.settings.version
     most = can.made.most
 
-    by : (p : Policy) → BodyFits (most_count deck.settings.version) c (aired_as p i v (es p))
-    by FMatrix = record { some = omega (arith, long FMatrix, some); count = omega (arith, long FMatrix, most); placed = inr (omega (arith, long FMatrix, h)); value = value_below deck H can.made can.legal c i; entries = entries_below FMatrix n H c i one }
-    by Datacycle = record { some = omega (arith, long Datacycle, some); count = omega (arith, long Datacycle, most); placed = inr (omega (arith, long Datacycle, h)); value = value_below deck H can.made can.legal c i; entries = entries_below Datacycle n H c i one }
-    by RMatrix = record { some = omega (arith, long RMatrix, some); count = omega (arith, long RMatrix, most); placed = inr (omega (arith, long RMatrix, h)); value = value_below deck H can.made can.legal c i; entries = entries_below RMatrix n H c i one }
+    by : (p : Policy) → BodyFits (most_count deck.settings.version) c (aired_as p i v es)
+    by FMatrix = record { some = omega (arith, long, some); count = omega (arith, long, most); placed = inr (omega (arith, long, h)); value = value_below deck H can.made can.legal c i; entries = low }
+    by Datacycle = record { some = omega (arith, long, some); count = omega (arith, long, most); placed = inr (omega (arith, long, h)); value = value_below deck H can.made can.legal c i; entries = low }
+    by RMatrix = record { some = omega (arith, long, some); count = omega (arith, long, most); placed = inr (omega (arith, long, h)); value = value_below deck H can.made can.legal c i; entries = low }
 
 -- The edition of a cycle fits in 16 bits.
 edition_few : (deck : Deck) → IsDeck deck → (c : ℕ) → edition_at (air_of deck) c < 2 ^ 16

@@ -41,7 +41,7 @@ receiver deck H r heard is l aired =
     record {
       same = same;
       sound = subst (λ (s : State). All (IsSoundLine (values_in deck) policy H) s.lines) (sym same) (sound (values_in deck) a H reader heard filled cycles);
-      exact = λ f. subst (λ (s : State). All (IsExactLine deck.settings.version H reader) s.lines) (sym same) (exact (values_in deck) a H reader heard f filled cycles);
+      exact = λ f g. subst (λ (s : State). All (IsExactLine deck.settings.version H reader) s.lines) (sym same) (exact (values_in deck) a H reader heard f g filled cycles);
     }
 
 map_numbers : {X : Type 0} (f g : ℕ → X) (a n : ℕ) → ((k : ℕ) → a ≤ k → k < a + n → f k ≡ g k) → map f (range_with_len a n) ≡ map g (range_with_len a n)
@@ -54,7 +54,7 @@ pub true_sessions_are : (deck : Deck) (H : List Event) → CanAir deck H →
     sessions_over (by_entries (scheme_in deck)) deck (ether_of deck H) ≡ true_sessions deck H
 unfolding true_sessions heard_by
 true_sessions_are deck H can = map_numbers (λ r. session_of (by_entries (scheme_in deck)) deck r (map bucket_in (ether_of deck H r)))
-    (λ r. session_of (by_history (scheme_in deck) (values_in deck) H) deck r (map bucket_in (ether_of deck H r))) 0 (length deck.readers)
+    (λ r. session_of (by_history (scheme_in deck) (length deck.items) (values_in deck) H) deck r (map bucket_in (ether_of deck H r))) 0 (length deck.readers)
     (λ r low high.
     let records = map spelling (buckets_of (values_in deck) (air_of deck) H) in
     let heard = heard_was_pushed (odds_in deck) (words_of deck.settings.seed r (3 * length records)) records in

@@ -55,7 +55,7 @@ deck items updates (room, age, tries) queries script = record {
   readers = record { room = room; age = age; tries = tries } ∷ [];
   queries = queries ∷ [];
   script = script;
-  settings = record { policy = FMatrix; version = 1; cycles = 10; seed = 0; loss = 0; again = 0; late = 0; monitors = 0; hears = 1000000 };
+  settings = record { policy = FMatrix; version = 1; group = 0; cycles = 10; seed = 0; loss = 0; again = 0; late = 0; monitors = 0; hears = 1000000 };
 }
 
 -- The deck with another policy.
@@ -112,7 +112,7 @@ over judge d heard = let t : State = session judge (air_of d) (reader_of d 0) he
 -- The session is this one, by the history and by the entries.
 abbrev pub by_both : Deck → List (Option Bucket) → List SessionLine × Counts → Type 0
 by_both d heard result =
-    (over (by_history (scheme_in d) (values_in d) (script_history d)) d heard ≡ result) × (over (by_entries (scheme_in d)) d heard ≡ result)
+    (over (by_history (scheme_in d) (length d.items) (values_in d) (script_history d)) d heard ≡ result) × (over (by_entries (scheme_in d)) d heard ≡ result)
 
 -- A read of an item in a cycle, and its value.
 abbrev pub read : ℕ → ℕ → ℕ → ReadOf

@@ -8,7 +8,6 @@ use Rattle.std.proofs.lemmas.Option.{get_or_from_slice_get, slice_get_within}
 use Rattle.std.proofs.lemmas.Simd.{map-map}
 use Rattle.std.proofs.lemmas.List.{map-append, take_more, length-map, take_all, length_push}
 use Rattle.std.proofs.lemmas.List.Elements.{All-head, All-tail, All-cons, All-push, All-nil, All-map}
-use Rattle.air_base.specs.declared.verdicts.Policy.{Policy}
 use Rattle.air_base.specs.declared.verdicts.Policy.TheVariants.{FMatrix}
 use Rattle.air_base.specs.declared.verdicts.Clash.{Clash}
 use Rattle.air_base.specs.declared.verdicts.VerdictKind.{VerdictKind}
@@ -17,9 +16,9 @@ use Rattle.air_history.specs.declared.histories.Event.{Event}
 use Rattle.air_history.specs.Tables.{table, values_of}
 use Rattle.air_history.specs.Reads.{ReadAt, IsRead, read_value}
 use Rattle.air_history.specs.Consistency.{alone, IsConsistent}
-use Rattle.air_history.specs.Clashes.{is_late, clash_by_history}
+use Rattle.air_history.specs.Clashes.{is_late, clash_by_history, clash_of}
 use Rattle.air_history.specs.ClashLaws.{Accepts, IsSound}
-use Rattle.air_history.specs.Columns.{Scheme}
+use Rattle.air_history.specs.Columns.{Scheme, scheme_of}
 use Rattle.air_history.proofs.AloneLemmas.{values}
 use Rattle.air_history.proofs.PolicyLemmas.{stays_consistent}
 use Rattle.air_history.proofs.AcceptedLemmas.{accepted, accepts_none, accepts_push}
@@ -38,25 +37,25 @@ use Rattle.air_model.proofs.MomentLemmas.{item_after, Keeps, Gives, kept}
 abbrev FromOne : Read → Type 0
 FromOne r = 1 ≤ r.cycle
 
--- Reads from cycle 1 on that the policy accepted one after another.
-abbrev AreAccepted : Policy → List Event → List Read → Type 0
-AreAccepted p H R = All FromOne R × Accepts p H (map place_of R)
+-- Reads from cycle 1 on that the scheme accepted one after another.
+abbrev AreAccepted : Scheme → ℕ → List Event → List Read → Type 0
+AreAccepted s n H R = All FromOne R × Accepts s n H (map place_of R)
 
-are_none : (p : Policy) (H : List Event) → AreAccepted p H []
-are_none p H = (All-nil FromOne, accepts_none p H)
+are_none : (s : Scheme) (n : ℕ) (H : List Event) → AreAccepted s n H []
+are_none s n H = (All-nil FromOne, accepts_none s n H)
 
-are_more : (p : Policy) (H : List Event) (R : List Read) (x : Read) → AreAccepted p H R → FromOne x → is_late p (map place_of R) (place_of x) ≡ false →
-    clash_by_history p H (map place_of R) (place_of x) ≡ None → AreAccepted p H (R ++ x ∷ [])
-are_more p H R x k pos late none = (
+are_more : (s : Scheme) (n : ℕ) (H : List Event) (R : List Read) (x : Read) → AreAccepted s n H R → FromOne x → is_late s.policy (map place_of R) (place_of x) ≡ false →
+    clash_of s n H (map place_of R) (place_of x) ≡ None → AreAccepted s n H (R ++ x ∷ [])
+are_more s n H R x k pos late none = (
   All-push FromOne R x k.0 pos,
-  subst (Accepts p H) (sym (map-append place_of R (x ∷ []))) (accepts_push p H (map place_of R) (place_of x) k.1 late none),
+  subst (Accepts s n H) (sym (map-append place_of R (x ∷ []))) (accepts_push s n H (map place_of R) (place_of x) k.1 late none),
 )
 
 are_reads : (R : List Read) → All FromOne R → All IsRead (map place_of R)
 are_reads R are = All-map IsRead place_of R are
 
-are_sound : (p : Policy) (H : List Event) (R : List Read) → AreAccepted p H R → IsSound p H (map place_of R)
-are_sound p H R k = accepted p H (map place_of R) (are_reads R k.0) k.1
+are_sound : (s : Scheme) (n : ℕ) (H : List Event) (R : List Read) → AreAccepted s n H R → IsSound s.policy H (map place_of R)
+are_sound s n H R k = accepted s n H (map place_of R) (are_reads R k.0) k.1
 
 all_unmap : (P : ReadAt → Type 0) (R : List Read) → All P (map place_of R) → All (λ r. P (place_of r)) R
 all_unmap P [] h = All-nil (λ r. P (place_of r))
@@ -68,14 +67,14 @@ line_reads : (J : Judge) (q a : ℕ) (kind : VerdictKind) (R : List Read) → re
 unfolding line_of
 line_reads J q a kind R = map-map _ _ R
 
-sound_line : (V : List ℕ) (p : Scheme) (H : List Event) (q a : ℕ) (kind : VerdictKind) (R : List Read) → AreAccepted p.policy H R → IsSoundLine V p.policy H (line_of (by_history p V H) q a kind R)
+sound_line : (V : List ℕ) (p : Scheme) (n : ℕ) (H : List Event) (q a : ℕ) (kind : VerdictKind) (R : List Read) → AreAccepted p n H R → IsSoundLine V p.policy H (line_of (by_history p n V H) q a kind R)
 unfolding line_of by_history
-sound_line V p H q a kind R k =
-    let sound : IsSound p.policy H (map place_of R) = are_sound p.policy H R k in
-    let same : map place_of R ≡ reads_at (line_of (by_history p V H) q a kind R) = sym (line_reads (by_history p V H) q a kind R) in
+sound_line V p n H q a kind R k =
+    let sound : IsSound p.policy H (map place_of R) = are_sound p n H R k in
+    let same : map place_of R ≡ reads_at (line_of (by_history p n V H) q a kind R) = sym (line_reads (by_history p n V H) q a kind R) in
     record {
       reads = subst (IsSound p.policy H) same sound;
-      by_ancestors = λ bases. All-map (λ r. r.value ≡ table (values_of V) (alone H (reads_at (line_of (by_history p V H) q a kind R))) r.item)
+      by_ancestors = λ bases. All-map (λ r. r.value ≡ table (values_of V) (alone H (reads_at (line_of (by_history p n V H) q a kind R))) r.item)
           (λ r. record { item = r.item; cycle = r.cycle; value = read_value (values_of V) H (place_of r) }) R
           (λ i d l. sym (subst (λ S. table (values_of V) (alone H S) (get_or R i d).item ≡ read_value (values_of V) H (place_of (get_or R i d))) same
           (all_unmap (λ r. table (values_of V) (alone H (map place_of R)) r.item ≡ read_value (values_of V) H r) R (values (values_of V) H (map place_of R) bases sound.consistent) i d l)));
@@ -91,20 +90,20 @@ read_from_one air (Some b) h = λ t. by b.body (h t)
     by (Vector i v es) h = h
 
 pub sound : (values : List ℕ) (air : Air) (H : List Event) (reader : Reader) (heard : List (Option Bucket)) → QueriesFilled reader → CyclesFromOne air heard →
-    All (IsSoundLine values air.scheme.policy H) (session (by_history air.scheme values H) air reader heard).lines
+    All (IsSoundLine values air.scheme.policy H) (session (by_history air.scheme air.items values H) air reader heard).lines
 unfolding by_history
-sound V air H reader heard filled cycles = kept (by_history air.scheme V H) air reader FromOne (λ q a R. AreAccepted air.scheme.policy H R) (IsSoundLine V air.scheme.policy H) filled rules heard
+sound V air H reader heard filled cycles = kept (by_history air.scheme air.items V H) air reader FromOne (λ q a R. AreAccepted air.scheme air.items H R) (IsSoundLine V air.scheme.policy H) filled rules heard
     (λ k d l. read_from_one air (get_or heard k d) (cycles k d l))
   where
-    rules : Keeps (by_history air.scheme V H) air reader FromOne (λ q a R. AreAccepted air.scheme.policy H R) (IsSoundLine V air.scheme.policy H)
+    rules : Keeps (by_history air.scheme air.items V H) air reader FromOne (λ q a R. AreAccepted air.scheme air.items H R) (IsSoundLine V air.scheme.policy H)
     rules = record {
-      first = λ q. are_none air.scheme.policy H;
-      again = λ q a R k l. are_none air.scheme.policy H;
-      more = λ q a R x k pos judged near none. are_more air.scheme.policy H R x k pos judged.in_time none;
-      accepted = λ q a R k l e. sound_line V air.scheme H q a Accept R k;
-      aborted = λ q a R x c k pos judged near e. sound_line V air.scheme H q a (Abort x.item x.cycle c.item) R k;
-      aged = λ q a R x k pos judged far. sound_line V air.scheme H q a (Aged x.item x.cycle) R k;
-      unfinished = λ q a R k e. sound_line V air.scheme H q a Unfinished R k;
+      first = λ q. are_none air.scheme air.items H;
+      again = λ q a R k l. are_none air.scheme air.items H;
+      more = λ q a R x k pos judged near none. are_more air.scheme air.items H R x k pos judged.in_time none;
+      accepted = λ q a R k l e. sound_line V air.scheme air.items H q a Accept R k;
+      aborted = λ q a R x c k pos judged near e. sound_line V air.scheme air.items H q a (Abort x.item x.cycle c.item) R k;
+      aged = λ q a R x k pos judged far. sound_line V air.scheme air.items H q a (Aged x.item x.cycle) R k;
+      unfinished = λ q a R k e. sound_line V air.scheme air.items H q a Unfinished R k;
     }
 
 -- ---- the reads follow the query
@@ -133,6 +132,12 @@ part_of_query (i ∷ query) (suc n) e = let rest = part_of_query query n e in om
 
 -- ---- F-Matrix: what a verdict tells
 
+-- Without groups F-Matrix's clash is by the pairs.
+exact_clash : (s : Scheme) (n : ℕ) (H : List Event) (R : List ReadAt) (x : ReadAt) → s.policy ≡ FMatrix → s.group ≡ 0 → (c : Clash) → clash_of s n H R x ≡ Some c → clash_by_history FMatrix H R x ≡ Some c
+exact_clash s n H R x f g c e =
+    let same : ◌≡◌ {A = Scheme} (record { policy = s.policy; group = s.group }) (scheme_of FMatrix) = cc in
+    subst (λ (t : Scheme). clash_of t n H R x ≡ Some c) same e
+
 -- A read that clashes makes consistent reads inconsistent.
 refuses : (H : List Event) (R : List Read) (x : Read) (c : Clash) → All FromOne R → FromOne x → IsConsistent H (map place_of R) →
     clash_by_history FMatrix H (map place_of R) (place_of x) ≡ Some c → IsConsistent H (map place_of R ++ place_of x ∷ []) → ⊥
@@ -154,45 +159,45 @@ abbrev pub TellsSpan : ℕ → VerdictKind → List ReadAt → Type 0
 TellsSpan version (Aged item cycle) R = are_far version R ≡ true
 TellsSpan version other R = are_far version R ≡ false
 
-pub verdict : (values : List ℕ) (air : Air) (H : List Event) (reader : Reader) (heard : List (Option Bucket)) → air.scheme.policy ≡ FMatrix → QueriesFilled reader → CyclesFromOne air heard →
+pub verdict : (values : List ℕ) (air : Air) (H : List Event) (reader : Reader) (heard : List (Option Bucket)) → air.scheme.policy ≡ FMatrix → air.scheme.group ≡ 0 → QueriesFilled reader → CyclesFromOne air heard →
     All (λ l. Tells H (get_or reader.queries l.verdict.query []) l.verdict.kind (reads_at l) × TellsSpan air.version l.verdict.kind (decided_on l.verdict.kind (reads_at l)))
-    (session (by_history air.scheme values H) air reader heard).lines
+    (session (by_history air.scheme air.items values H) air reader heard).lines
 unfolding by_history Tells line_of
-verdict V air H reader heard f filled cycles = kept (by_history air.scheme V H) air reader FromOne K L filled rules heard
+verdict V air H reader heard f g filled cycles = kept (by_history air.scheme air.items V H) air reader FromOne K L filled rules heard
     (λ k d l. read_from_one air (get_or heard k d) (cycles k d l))
   where
     query : ℕ → List ℕ
     query q = get_or reader.queries q []
 
     K : ℕ → ℕ → List Read → Type 0
-    K q a R = AreAccepted air.scheme.policy H R × InQuery reader q R × (are_far air.version (map place_of R) ≡ false)
+    K q a R = AreAccepted air.scheme air.items H R × InQuery reader q R × (are_far air.version (map place_of R) ≡ false)
 
     L : SessionLine → Type 0
     L l = Tells H (get_or reader.queries l.verdict.query []) l.verdict.kind (reads_at l) × TellsSpan air.version l.verdict.kind (decided_on l.verdict.kind (reads_at l))
 
-    same : (q a : ℕ) (kind : VerdictKind) (R : List Read) → map place_of R ≡ reads_at (line_of (by_history air.scheme V H) q a kind R)
-    same q a kind R = sym (line_reads (by_history air.scheme V H) q a kind R)
+    same : (q a : ℕ) (kind : VerdictKind) (R : List Read) → map place_of R ≡ reads_at (line_of (by_history air.scheme air.items V H) q a kind R)
+    same q a kind R = sym (line_reads (by_history air.scheme air.items V H) q a kind R)
 
-    rules : Keeps (by_history air.scheme V H) air reader FromOne K L
+    rules : Keeps (by_history air.scheme air.items V H) air reader FromOne K L
     rules = record {
-      first = λ q. (are_none air.scheme.policy H, refl, none_far air.version);
-      again = λ q a R k l. (are_none air.scheme.policy H, refl, none_far air.version);
+      first = λ q. (are_none air.scheme air.items H, refl, none_far air.version);
+      again = λ q a R k l. (are_none air.scheme air.items H, refl, none_far air.version);
       more = λ q a R x k pos judged near none. (
-        are_more air.scheme.policy H R x k.0 pos judged.in_time none,
+        are_more air.scheme air.items H R x k.0 pos judged.in_time none,
         in_query_more reader q R x k.1 judged.wanted,
         subst (λ S. are_far air.version S ≡ false) (sym (map-append place_of R (x ∷ []))) near,
       );
       accepted = λ q a R k l e. subst (λ S. ((map (λ r. r.item) S ≡ query q) × IsConsistent H S) × (are_far air.version S ≡ false)) (same q a Accept R)
-          ((map-map (λ r. r.item) place_of R ∙ k.1 ∙ take_all (length R) (query q) (whole_query (query q) (length R) e), (are_sound air.scheme.policy H R k.0).consistent), k.2);
+          ((map-map (λ r. r.item) place_of R ∙ k.1 ∙ take_all (length R) (query q) (whole_query (query q) (length R) e), (are_sound air.scheme air.items H R k.0).consistent), k.2);
       aborted = λ q a R x c k pos judged near e.
           subst (λ S. (IsConsistent H S × (IsConsistent H (S ++ place_of x ∷ []) → ⊥)) × (are_far air.version (S ++ place_of x ∷ []) ≡ false)) (same q a (Abort x.item x.cycle c.item) R) (
             (
-              (are_sound air.scheme.policy H R k.0).consistent,
-              refuses H R x c k.0.0 pos (are_sound air.scheme.policy H R k.0).consistent (subst (λ p. clash_by_history p H (map place_of R) (place_of x) ≡ Some c) f e),
+              (are_sound air.scheme air.items H R k.0).consistent,
+              refuses H R x c k.0.0 pos (are_sound air.scheme air.items H R k.0).consistent (exact_clash air.scheme air.items H (map place_of R) (place_of x) f g c e),
             ),
             near,
           );
       aged = λ q a R x k pos judged far. (tt, subst (λ S. are_far air.version (S ++ place_of x ∷ []) ≡ true) (same q a (Aged x.item x.cycle) R) far);
       unfinished = λ q a R k e. subst (λ S. (IsConsistent H S × (length S < length (query q))) × (are_far air.version S ≡ false)) (same q a Unfinished R)
-          (((are_sound air.scheme.policy H R k.0).consistent, subst (λ n. n < length (query q)) (sym (length-map R place_of)) (part_of_query (query q) (length R) e)), k.2);
+          (((are_sound air.scheme air.items H R k.0).consistent, subst (λ n. n < length (query q)) (sym (length-map R place_of)) (part_of_query (query q) (length R) e)), k.2);
     }

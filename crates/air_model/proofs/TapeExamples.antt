@@ -1,5 +1,5 @@
 -- The tape of the two buckets of two items, whole and cut.
-use Rattle.std.specs.Prelude.{◌≡◌, ℕ, List, [], ◌∷◌, length, take, Some, None, refl}
+use Rattle.std.specs.Prelude.{◌≡◌, ℕ, List, [], ◌∷◌, length, take, true, false, Some, None, refl}
 use Rattle.air_model.proofs.BucketExamples.{first_bytes, second_bytes}
 use Rattle.air_model.specs.Tapes.{ends_inside, read_from, record_bytes, tape_of, tape_read}
 
@@ -21,3 +21,14 @@ cut_short = (refl, refl, refl)
 empty_record : (tape_read (0 ∷ 0 ∷ 0 ∷ 0 ∷ []) ≡ record { records = [] ∷ []; cut = None }) × (tape_read (255 ∷ 255 ∷ 255 ∷ 255 ∷ []) ≡ record { records = []; cut = Some 0 })
 unfolding read_from ends_inside
 empty_record = (refl, refl)
+
+-- One byte is cut inside the length.
+one_byte : tape_read (0 ∷ []) ≡ record { records = []; cut = Some 0 }
+unfolding read_from ends_inside
+one_byte = refl
+
+-- No byte is left, or a record without bytes, or one of one byte: nothing is cut. One byte of a length, or a length alone: cut.
+inside : (ends_inside [] ≡ false) × (ends_inside (0 ∷ 0 ∷ 0 ∷ 0 ∷ []) ≡ false) × (ends_inside (0 ∷ 0 ∷ 0 ∷ 1 ∷ 7 ∷ []) ≡ false)
+    × (ends_inside (0 ∷ []) ≡ true) × (ends_inside (0 ∷ 0 ∷ 0 ∷ 1 ∷ []) ≡ true)
+unfolding ends_inside
+inside = (refl, refl, refl, refl, refl)

@@ -6,7 +6,7 @@ use Rattle.air_base.specs.declared.verdicts.Policy.{Policy}
 use Rattle.air_base.specs.declared.verdicts.Policy.TheVariants.{FMatrix}
 use Rattle.air_history.specs.declared.histories.Event.{Event}
 use Rattle.air_history.specs.Histories.{starts}
-use Rattle.air_history.specs.Columns.{Scheme, aired_entries, scheme_of}
+use Rattle.air_history.specs.Columns.{Scheme, aired_entries}
 use Rattle.air_history.specs.Tables.{values_of}
 use Rattle.air_history.specs.Reads.{read_value}
 use Rattle.air_model.specs.Buckets.{Bucket, Body, Idle, Column, Vector, capped_bucket, spelling}
@@ -37,9 +37,9 @@ slots_at air c = get_or air.slots (edition_at air c) []
 abbrev pub pix_at : Air → ℕ → List ℕ
 pix_at air c = get_or air.pix (edition_at air c) []
 
--- The scheme of the deck's policy.
+-- The scheme of the deck's policy and group.
 abbrev pub scheme_in : Deck → Scheme
-scheme_in deck = scheme_of deck.settings.policy
+scheme_in deck = record { policy = deck.settings.policy; group = deck.settings.group }
 
 -- The PIX number of each item by the disks of an edition.
 abbrev pub pix_in : Deck → ℕ → List ℕ

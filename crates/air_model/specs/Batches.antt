@@ -3,7 +3,7 @@ use Rattle.std.specs.Prelude.{◌≡◌, ℕ, List, [], ◌∷◌, ◌++◌, len
 use Rattle.std.specs.List.{flat_map, range_with_len}
 use Rattle.air_history.specs.declared.histories.Event.{Event}
 use Rattle.air_history.specs.declared.histories.Event.TheVariants.{Start}
-use Rattle.air_history.specs.Histories.{starts}
+use Rattle.air_history.specs.Histories.{starts, events_in}
 use Rattle.air_model.specs.Aired.{Air, air_of, buckets_of, cycle_buckets}
 use Rattle.air_model.specs.Buckets.{Bucket}
 use Rattle.air_model.specs.Decks.{Deck, values_in}
@@ -13,10 +13,6 @@ pub record EndsWithStart (batch : List Event) : Type 0 where
   pub commits : List Event
   pub ends : batch ≡ commits ++ Start ∷ []
   pub one : starts commits ≡ 0
-
--- The events of batches, in order.
-abbrev pub events_in : List (List Event) → List Event
-events_in batches = flat_map (λ batch. batch) batches
 
 -- The buckets of the last cycle that a history starts, slot by slot.
 abbrev pub last_buckets : List ℕ → Air → List Event → List Bucket

@@ -3,7 +3,8 @@
 use Rattle.std.specs.Prelude.{◌≡◌, ◌⊎◌, ℕ, zero, suc, ◌+◌, ◌^◌, ◌<◌, ◌≤◌, Bool, false, ◌==◌, nat_le, List, [], length, map, take, get_or, count_by, sum_by, slice_get, All, AllPairs, Option, Some, None}
 use Rattle.std.specs.List.{range_with_len}
 use Rattle.std.specs.Option.{option_map_or}
-use Rattle.air_base.specs.declared.limits.TheConstants.{MOST_CYCLES, MOST_REPLANS}
+use Rattle.air_base.specs.declared.limits.TheConstants.{MOST_CYCLES, MOST_GROUP, MOST_REPLANS}
+use Rattle.air_base.specs.declared.verdicts.Policy.TheVariants.{FMatrix}
 use Rattle.air_history.specs.declared.histories.Event.{Event}
 use Rattle.air_history.specs.declared.histories.Event.TheVariants.{Commit, Start}
 use Rattle.air_history.specs.UpdateLists.{UpdateLists}
@@ -137,13 +138,16 @@ pub record IsQuery (n : ℕ) (items : List ℕ) : Type 0 where
   pub distinct : has_repeat items ≡ false
   pub within : All (λ i. i < n) items
 
--- A deck is well made if all this holds. It has items, at most as many as its version takes, with values of 64 bits. The disks
--- of each edition take all items, and each disk is aired. There are few replans, which come into force one after another, from
--- cycle 2 on and within the cycles of the longest run. Updates, readers, queries and script are valid.
+-- A deck is well made if all this holds. It has items, at most as many as its version takes, with values of 64 bits. A group has
+-- at most 1,024 items, and only under F-Matrix are there groups. The disks of each edition take all items, and each disk is
+-- aired. There are few replans, which come into force one after another, from cycle 2 on and within the cycles of the longest
+-- run. Updates, readers, queries and script are valid.
 pub record IsDeck (deck : Deck) : Type 0 where
   pub some : 0 < length deck.items
   pub version : (deck.settings.version ≡ 1) ⊎ (deck.settings.version ≡ 2)
   pub most : length deck.items ≤ most_count deck.settings.version
+  pub group : deck.settings.group ≤ MOST_GROUP
+  pub grouped : (deck.settings.policy ≡ FMatrix) ⊎ (deck.settings.group ≡ 0)
   pub values : All (λ i. i.value < 2 ^ 64) deck.items
   pub sizes : (e : ℕ) → e < count_editions deck → sum_by (λ d. d.size) (specs_in deck e) ≡ length deck.items
   pub aired : (e : ℕ) → e < count_editions deck → All (λ d. (0 < d.size) × (0 < d.freq)) (specs_in deck e)

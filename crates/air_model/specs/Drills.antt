@@ -72,7 +72,7 @@ drill_readers = replicate 8 (record { room = 4; age = 8; tries = 3 })
 
 -- The settings: some buckets are lost, some heard again and some delayed, by the drill's own seed.
 abbrev pub drill_settings : ℕ → Settings
-drill_settings seed = record { policy = FMatrix; version = 1; cycles = DEFAULT_CYCLES; seed = seed; loss = 5; again = 3; late = 10; monitors = 0; hears = DEFAULT_HEARS }
+drill_settings seed = record { policy = FMatrix; version = 1; group = 0; cycles = DEFAULT_CYCLES; seed = seed; loss = 5; again = 3; late = 10; monitors = 0; hears = DEFAULT_HEARS }
 
 -- The number of items of a drill of this size.
 abbrev pub drill_items : ℕ → ℕ

@@ -6,7 +6,7 @@ use Rattle.air_history.specs.declared.histories.Event.{Event}
 use Rattle.air_history.specs.Columns.{Scheme}
 use Rattle.air_history.specs.Reads.{ReadAt, read_value}
 use Rattle.air_history.specs.Tables.{values_of}
-use Rattle.air_history.specs.Clashes.{HeardRead, clash_by_history, clash_by_entries}
+use Rattle.air_history.specs.Clashes.{HeardRead, clash_by_entries, clash_of}
 use Rattle.air_model.specs.Reads.{Read}
 
 -- A judge says the value of a read, and the held read with which a new one clashes.
@@ -22,11 +22,11 @@ place_of r = record { item = r.item; cycle = r.cycle }
 abbrev pub heard_of : Read → HeardRead
 heard_of r = record { item = r.item; cycle = r.cycle; entries = r.entries }
 
--- The judge by the history: it judges by origins, and takes values from the history's tables.
-unfoldable pub by_history : Scheme → List ℕ → List Event → Judge
-by_history scheme values H = record {
+-- The judge by the history: it judges reads of n items by origins, and takes values from the history's tables.
+unfoldable pub by_history : Scheme → ℕ → List ℕ → List Event → Judge
+by_history scheme n values H = record {
   value = λ r. read_value (values_of values) H (place_of r);
-  clash = λ R x. clash_by_history scheme.policy H (map place_of R) (place_of x);
+  clash = λ R x. clash_of scheme n H (map place_of R) (place_of x);
 }
 
 -- The judge by the entries: it judges by the cycles in them, and takes the heard values.

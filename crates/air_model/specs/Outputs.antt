@@ -30,7 +30,7 @@ ether_of deck H r = heard_by deck.settings.seed r (odds_in deck) (map spelling (
 
 -- The sessions of all readers over a history, judged by it.
 unfoldable pub true_sessions : Deck → List Event → List State
-true_sessions deck H = sessions_over (by_history (scheme_in deck) (values_in deck) H) deck (ether_of deck H)
+true_sessions deck H = sessions_over (by_history (scheme_in deck) (length deck.items) (values_in deck) H) deck (ether_of deck H)
 
 -- ---- commands
 

@@ -7,3 +7,7 @@ pub record Read : Type 0 where
   pub cycle : ℕ
   pub value : ℕ
   pub entries : List ℕ
+
+-- The read of an item in a cycle, with its value and entries.
+abbrev pub read_with : ℕ → ℕ → ℕ → List ℕ → Read
+read_with item cycle value entries = record { item = item; cycle = cycle; value = value; entries = entries }

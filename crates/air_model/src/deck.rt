@@ -35,6 +35,8 @@ pub struct Settings {
     pub policy: Policy,
     /// The version of the buckets: 1 or 2.
     pub version: u8,
+    /// Of how many items a group is that is aired with one column, and 0 where there are no groups.
+    pub group: u16,
     /// How many cycles the threads of a run start.
     pub cycles: u32,
     /// The seed of every receiver's ether.

@@ -5,14 +5,14 @@
 
 ghost use Rattle.std.specs.Prelude.{◌≡◌, ◌≤◌, ℕ, List, ◌++◌, All};
 ghost use Rattle.air_history.specs.declared.histories.Event.{Event};
-ghost use Rattle.air_history.specs.Histories.{starts};
+ghost use Rattle.air_history.specs.Histories.{starts, events_in};
 ghost use Rattle.air_history.specs.Boards.{frame_of};
 ghost use Rattle.air_model.specs.Buckets.{Bucket};
 ghost use Rattle.air_model.specs.Decks.{Deck, IsDeck, IsLegal, IsWhole, values_in};
 ghost use Rattle.air_model.specs.Aired.{Air, air_of, buckets_of};
 ghost use Rattle.air_model.specs.declared.reports.LookLine.{LookLine};
 ghost use Rattle.air_model.specs.AiredItems.{AirsItems};
-ghost use Rattle.air_model.specs.Batches.{AirsByBatches, EndsWithStart, events_in};
+ghost use Rattle.air_model.specs.Batches.{AirsByBatches, EndsWithStart};
 ghost use Rattle.air_model.specs.RunClosings.{HaveMadeAll, HaveMadeSome, IsClosing};
 ghost use Rattle.air_model.specs.MonitorSights.{EndsAtStart, IsSeen};
 

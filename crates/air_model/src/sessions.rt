@@ -22,14 +22,14 @@ ghost use Rattle.air_model.specs.Outputs.{ether_of, sessions_over, true_sessions
 pub fn judges_law()
     ensures { (values : List ℕ) (air : Air) (H : List Event) (reader : Reader) (heard : List (Option Bucket)) →
         SlotsFit air → QueriesFilled reader → IsAired values air H heard →
-        session (by_history air.scheme values H) air reader heard ≡ session (by_entries air.scheme) air reader heard }
+        session (by_history air.scheme air.items values H) air reader heard ≡ session (by_entries air.scheme) air reader heard }
 {}
 
 /// By the history a session is the same over bare buckets: it uses no column, no vector and no heard value.
 pub fn bare_law()
     ensures { (values : List ℕ) (air : Air) (H : List Event) (reader : Reader) (heard : List (Option Bucket)) →
-        let s = session (by_history air.scheme values H) air reader heard in
-        let t = session (by_history air.scheme values H) air reader (map (option_map bare) heard) in
+        let s = session (by_history air.scheme air.items values H) air reader heard in
+        let t = session (by_history air.scheme air.items values H) air reader (map (option_map bare) heard) in
         (t.lines ≡ s.lines) × (t.counts ≡ s.counts) }
 {}
 
@@ -38,22 +38,22 @@ pub fn bare_law()
 pub fn sound_law()
     ensures { (values : List ℕ) (air : Air) (H : List Event) (reader : Reader) (heard : List (Option Bucket)) →
         QueriesFilled reader → CyclesFromOne air heard →
-        All (IsSoundLine values air.scheme.policy H) (session (by_history air.scheme values H) air reader heard).lines }
+        All (IsSoundLine values air.scheme.policy H) (session (by_history air.scheme air.items values H) air reader heard).lines }
 {}
 
-/// Every verdict by the history under F-Matrix is exact, for every heard list. An attempt is aged if and only if its reads are
-/// too far apart for the air's version. Otherwise a query is accepted if and only if its reads are whole and consistent, and
-/// aborted if and only if they aren't consistent.
+/// Every verdict by the history under F-Matrix without groups is exact, for every heard list. An attempt is aged if and only if
+/// its reads are too far apart for the air's version. Otherwise a query is accepted if and only if its reads are whole and
+/// consistent, and aborted if and only if they aren't consistent.
 pub fn exact_law()
     ensures { (values : List ℕ) (air : Air) (H : List Event) (reader : Reader) (heard : List (Option Bucket)) →
-        air.scheme.policy ≡ FMatrix → QueriesFilled reader → CyclesFromOne air heard →
-        All (IsExactLine air.version H reader) (session (by_history air.scheme values H) air reader heard).lines }
+        air.scheme.policy ≡ FMatrix → air.scheme.group ≡ 0 → QueriesFilled reader → CyclesFromOne air heard →
+        All (IsExactLine air.version H reader) (session (by_history air.scheme air.items values H) air reader heard).lines }
 {}
 
 /// If a new read clashes, both judges name a held read.
 pub fn names_law()
-    ensures { (scheme : Scheme) (values : List ℕ) (H : List Event) →
-        NamesHeld (by_history scheme values H) × NamesHeld (by_entries scheme) }
+    ensures { (scheme : Scheme) (n : ℕ) (values : List ℕ) (H : List Event) →
+        NamesHeld (by_history scheme n values H) × NamesHeld (by_entries scheme) }
 {}
 
 /// Every line is the reader's, by each judge that names held reads and for every heard list: its query, its attempt and its

@@ -20,7 +20,7 @@ of_one_rate items disks = record {
   readers = [];
   queries = [];
   script = [];
-  settings = record { policy = FMatrix; version = 1; cycles = 10; seed = 0; loss = 0; again = 0; late = 0; monitors = 0; hears = 1000000 };
+  settings = record { policy = FMatrix; version = 1; group = 0; cycles = 10; seed = 0; loss = 0; again = 0; late = 0; monitors = 0; hears = 1000000 };
 }
 
 -- Four items in each of 4096 minor cycles, which are 16,384 slots, and five in each of 3277, which are 16,385.

@@ -3,6 +3,7 @@ use Rattle.std.specs.Prelude.{ℕ, List, [], ◌∷◌, None, map}
 use Rattle.air_history.specs.Boards.{Board}
 use Rattle.air_model.specs.Buckets.{Bucket, Body, Idle, Column, spelling}
 use Rattle.air_devices.specs.Masts.{SentBuckets}
+use Rattle.group_matrix.specs.GroupBoards.{GroupBoard}
 
 -- A board of two items in cycle 2, of which item 1 was written in cycle 1 from item 0.
 abbrev pub two_item_board : Board
@@ -22,6 +23,15 @@ abbrev pub four_buckets : ℕ → ℕ → List (List ℕ)
 four_buckets version edition = map spelling (
     in_cycle_2 version edition 0 (Column 0 11 (1 ∷ 0 ∷ [])) ∷ in_cycle_2 version edition 1 (Column 1 12 (1 ∷ 1 ∷ [])) ∷ in_cycle_2 version edition 2 (Column 0 11 (1 ∷ 0 ∷ []))
     ∷ in_cycle_2 version edition 3 (Idle 2) ∷ [])
+
+-- The same board by groups of two items: the column of item 1 is the greatest at each place.
+abbrev pub two_item_groups : GroupBoard
+two_item_groups = record { cycle = 2; values = 11 ∷ 12 ∷ []; group = 2; columns = (1 ∷ 1 ∷ []) ∷ [] }
+
+-- The buckets of edition 0 by groups of two.
+abbrev pub group_buckets : List (List ℕ)
+group_buckets = map spelling (
+    in_cycle_2 1 0 0 (Column 0 11 (1 ∷ 1 ∷ [])) ∷ in_cycle_2 1 0 1 (Column 1 12 (1 ∷ 1 ∷ [])) ∷ in_cycle_2 1 0 2 (Column 0 11 (1 ∷ 1 ∷ [])) ∷ in_cycle_2 1 0 3 (Idle 2) ∷ [])
 
 -- These buckets were sent, and no end.
 abbrev pub sent : List (List ℕ) → SentBuckets

@@ -15,7 +15,7 @@ rated rates disks = record {
   readers = [];
   queries = [];
   script = [];
-  settings = record { policy = FMatrix; version = 1; cycles = 10; seed = 0; loss = 0; again = 0; late = 0; monitors = 0; hears = 1000000 };
+  settings = record { policy = FMatrix; version = 1; group = 0; cycles = 10; seed = 0; loss = 0; again = 0; late = 0; monitors = 0; hears = 1000000 };
 }
 
 -- Five items. The splits 1 4, 2 3, 3 2 and 4 1 cost 81, 92, 80 and 95.

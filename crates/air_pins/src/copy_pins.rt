@@ -8,6 +8,7 @@ ghost use Rattle.air_pins.specs.SmallCaches.{cache, of_two, of_three};
 use pix_cache::{KeepAnswer, Kept, PixCache};
 
 /// A newcomer with a lesser PIX number than the copy isn't kept if there is no room.
+/// Promise: the cache keeps the greatest
 pub fn cache_always_places(copies: &mut PixCache, column: &[u32]) -> KeepAnswer
     requires copies { copies.old ≡ cache 1 (5 ∷ 1 ∷ []) (of_two 0 2 ∷ []) }
     requires column { column.now ≡ 0 ∷ 0 ∷ [] }
@@ -18,6 +19,7 @@ pub fn cache_always_places(copies: &mut PixCache, column: &[u32]) -> KeepAnswer
 }
 
 /// A copy is lent with its cycle and its value.
+/// Promise: the cache keeps the greatest
 pub fn cycle_lent_for_the_value(copies: &PixCache) -> Option<Kept<'_>>
     requires { copies.now ≡ cache 1 (5 ∷ 1 ∷ []) (of_two 1 2 ∷ []) }
     ensures { MatchOption result ⊥ (λ kept. (kept.cycle ≡ 2) × (kept.value ≡ 70) × (kept.column.now ≡ 0 ∷ 0 ∷ [])) }
@@ -26,6 +28,7 @@ pub fn cycle_lent_for_the_value(copies: &PixCache) -> Option<Kept<'_>>
 }
 
 /// A copy that is dropped is gone.
+/// Promise: the cache keeps the greatest
 pub fn dropped_copy_stays(copies: &mut PixCache)
     requires { copies.old ≡ cache 2 (5 ∷ 1 ∷ []) (of_two 0 2 ∷ of_two 1 2 ∷ []) }
     ensures { copies.new ≡ cache 2 (5 ∷ 1 ∷ []) (of_two 0 2 ∷ []) }
@@ -34,6 +37,7 @@ pub fn dropped_copy_stays(copies: &mut PixCache)
 }
 
 /// A copy that gives way is gone.
+/// Promise: the cache keeps the greatest
 pub fn evicted_copy_stays(copies: &mut PixCache, column: &[u32]) -> KeepAnswer
     requires copies { copies.old ≡ cache 1 (1 ∷ 5 ∷ []) (of_two 0 2 ∷ []) }
     requires column { column.now ≡ 0 ∷ 0 ∷ [] }
@@ -44,6 +48,7 @@ pub fn evicted_copy_stays(copies: &mut PixCache, column: &[u32]) -> KeepAnswer
 }
 
 /// The copy with the least PIX number is dropped, and the answer names it. It also refuses that the newcomer is named instead.
+/// Promise: the cache keeps the greatest
 pub fn greatest_goes(copies: &mut PixCache, column: &[u32]) -> KeepAnswer
     requires copies { copies.old ≡ cache 2 (1 ∷ 5 ∷ 3 ∷ []) (of_three 0 2 ∷ of_three 1 2 ∷ []) }
     requires column { column.now ≡ 0 ∷ 0 ∷ 0 ∷ [] }
@@ -55,6 +60,7 @@ pub fn greatest_goes(copies: &mut PixCache, column: &[u32]) -> KeepAnswer
 
 /// After a change of the PIX numbers an offer is decided by the new ones. These are two calls, since the effect of the first
 /// shows only in the second.
+/// Promise: the cache keeps the greatest
 pub fn reorder_keeps_old_numbers(copies: &mut PixCache, pix: &[u64], column: &[u32]) -> KeepAnswer
     requires copies { copies.old ≡ cache 1 (1 ∷ 3 ∷ []) (of_two 0 2 ∷ []) }
     requires pix { pix.now ≡ 5 ∷ 3 ∷ [] }
@@ -67,6 +73,7 @@ pub fn reorder_keeps_old_numbers(copies: &mut PixCache, pix: &[u64], column: &[u
 }
 
 /// A newcomer takes the place of its item's copy, with its own cycle.
+/// Promise: the cache keeps the greatest
 pub fn replaced_keeps_its_old_cycle(copies: &mut PixCache, column: &[u32]) -> KeepAnswer
     requires copies { copies.old ≡ cache 1 (5 ∷ 1 ∷ []) (of_two 0 2 ∷ []) }
     requires column { column.now ≡ 0 ∷ 0 ∷ [] }
@@ -77,6 +84,7 @@ pub fn replaced_keeps_its_old_cycle(copies: &mut PixCache, column: &[u32]) -> Ke
 }
 
 /// Of two items with one PIX number, the one with the smaller item number stays.
+/// Promise: the cache keeps the greatest
 pub fn smaller_item_goes_among_equals(copies: &mut PixCache, column: &[u32]) -> KeepAnswer
     requires copies { copies.old ≡ cache 1 (4 ∷ 4 ∷ []) (of_two 0 2 ∷ []) }
     requires column { column.now ≡ 0 ∷ 0 ∷ [] }

@@ -11,8 +11,9 @@ use air_base::NoMemory;
 use air_ether::Ether;
 use std::alloc::Global;
 
-/// When the second push is made, the first one, which is late, is due with its own bucket. It also refuses that it is due one
+/// When the second push is made, the first one, which is delayed, is due with its own bucket. It also refuses that it is due one
 /// push later.
+/// Promise: the ether is its definition
 pub fn bucket_of_another_place(ether: &mut Ether) -> Option<&[u8]>
     requires { HasGiven 12 (odds 0 0 100) (codes "a" ∷ codes "b" ∷ []) 0 false ether.old }
     ensures { MatchOption result ⊥ (λ bytes. bytes.now ≡ codes "a") }
@@ -21,6 +22,7 @@ pub fn bucket_of_another_place(ether: &mut Ether) -> Option<&[u8]>
 }
 
 /// The second of two copies comes right after the first.
+/// Promise: the ether is its definition
 pub fn copies_apart(ether: &mut Ether) -> Option<&[u8]>
     requires { HasGiven 12 (odds 0 100 0) (codes "a" ∷ []) 1 false ether.old }
     ensures { MatchOption result ⊥ (λ bytes. bytes.now ≡ codes "a") }
@@ -29,6 +31,7 @@ pub fn copies_apart(ether: &mut Ether) -> Option<&[u8]>
 }
 
 /// The first of nine pushes is heard eight pushes later, when the last one is made.
+/// Promise: the ether is its definition
 pub fn eight_rooms_for_nine(ether: &mut Ether) -> Option<&[u8]>
     requires { HasGiven 1910 (odds 0 0 100) nine 0 false ether.old }
     ensures { MatchOption result ⊥ (λ bytes. bytes.now ≡ codes "a") }
@@ -37,6 +40,7 @@ pub fn eight_rooms_for_nine(ether: &mut Ether) -> Option<&[u8]>
 }
 
 /// What waits is heard after the end too.
+/// Promise: the ether is its definition
 pub fn end_drops_what_waits(ether: &mut Ether) -> Option<&[u8]>
     requires { HasGiven 12 (odds 0 0 100) (codes "a" ∷ []) 0 true ether.old }
     ensures { MatchOption result ⊥ (λ bytes. bytes.now ≡ codes "a") }
@@ -45,6 +49,7 @@ pub fn end_drops_what_waits(ether: &mut Ether) -> Option<&[u8]>
 }
 
 /// The first copy of the second push is heard.
+/// Promise: the ether is its definition
 pub fn first_copy_passed_over(ether: &mut Ether) -> Option<&[u8]>
     requires { HasGiven 12 (odds 0 0 0) (codes "a" ∷ codes "b" ∷ []) 1 false ether.old }
     ensures { MatchOption result ⊥ (λ bytes. bytes.now ≡ codes "b") }
@@ -53,6 +58,7 @@ pub fn first_copy_passed_over(ether: &mut Ether) -> Option<&[u8]>
 }
 
 /// A push that is lost draws three words too. It also refuses that each push draws two.
+/// Promise: the ether is its definition
 pub fn lost_ones_draw_less(ether: &mut Ether, bytes: &[u8])
     requires ether { HasGiven 12 (odds 100 0 0) [] 0 false ether.old }
     requires quiet { IsQuiet ether.old }
@@ -63,7 +69,8 @@ pub fn lost_ones_draw_less(ether: &mut Ether, bytes: &[u8])
     ether.push(bytes);
 }
 
-/// A late push isn't due at its own place.
+/// A delayed push isn't due at its own place.
+/// Promise: the ether is its definition
 pub fn place_before_due_number(ether: &mut Ether) -> Option<&[u8]>
     requires { HasGiven 12 (odds 0 0 100) (codes "a" ∷ []) 0 false ether.old }
     ensures { MatchOption result (Unit {0}) (λ _. ⊥) }
@@ -72,6 +79,7 @@ pub fn place_before_due_number(ether: &mut Ether) -> Option<&[u8]>
 }
 
 /// The words of reader 3 are its own.
+/// Promise: the ether is its definition
 pub fn readers_share_one_generator(alloc: Global) -> Result<Ether, NoMemory>
     ensures { IfOk result (λ ether. ether.generator ≡ record { state = 10238123810831757406; increment = 7 }) }
 {

@@ -16,6 +16,7 @@ use item_catalog::Deck;
 use std::alloc::Global;
 
 /// The deck that is planned is the given one, here with three items on two disks.
+/// Promise: the program is its definition
 pub fn another_deck_planned(alloc: Global, deck: Deck) -> Result<Planned, PlanFault>
     requires rates { rates_in deck ≡ 5 ∷ 5 ∷ 9 ∷ [] }
     requires disks { deck.disks ≡ spec 1 2 ∷ spec 2 1 ∷ [] }
@@ -25,6 +26,7 @@ pub fn another_deck_planned(alloc: Global, deck: Deck) -> Result<Planned, PlanFa
 }
 
 /// A cycle airs an item as often as its disk's frequency says.
+/// Promise: the program is its definition
 pub fn as_often_as_it_has_chunks(program: &Program) -> u32
     requires { program.now.disks ≡ four_slots }
     ensures { result ≡ 2 }
@@ -33,6 +35,7 @@ pub fn as_often_as_it_has_chunks(program: &Program) -> u32
 }
 
 /// The second minor cycle airs the one chunk of a disk again.
+/// Promise: the program is its definition
 pub fn chunk_of_the_minor_number(program: &Program) -> Option<u16>
     requires { program.now.disks ≡ four_slots }
     ensures { result ≡ Some 0 }
@@ -41,6 +44,7 @@ pub fn chunk_of_the_minor_number(program: &Program) -> Option<u16>
 }
 
 /// The second minor cycle airs the second chunk of a disk that has two.
+/// Promise: the program is its definition
 pub fn first_minor_cycle_twice(program: &Program) -> Option<u16>
     requires { program.now.disks ≡ four_slots }
     ensures { result ≡ Some 2 }
@@ -49,6 +53,7 @@ pub fn first_minor_cycle_twice(program: &Program) -> Option<u16>
 }
 
 /// An edition begins in its replan's cycle.
+/// Promise: the program is its definition
 pub fn edition_begins_one_cycle_late(plans: &Plans) -> u32
     requires { plans.now.replans ≡ 2 ∷ 5 ∷ [] }
     ensures { result ≡ 2 }
@@ -57,6 +62,7 @@ pub fn edition_begins_one_cycle_late(plans: &Plans) -> u32
 }
 
 /// The cycle before a replan's still has the earlier edition.
+/// Promise: the program is its definition
 pub fn edition_begins_one_cycle_early(plans: &Plans) -> u32
     requires { plans.now.replans ≡ 2 ∷ 5 ∷ [] }
     ensures { result ≡ 1 }
@@ -65,6 +71,7 @@ pub fn edition_begins_one_cycle_early(plans: &Plans) -> u32
 }
 
 /// Each edition is cut by its own disks, here of three items on one disk, then on two.
+/// Promise: the program is its definition
 pub fn every_edition_cut_as_the_first(alloc: Global, deck: &Deck) -> Result<Plans, PlanFault>
     requires rates { rates_in deck.now ≡ 5 ∷ 5 ∷ 9 ∷ [] }
     requires disks { deck.now.disks ≡ spec 3 1 ∷ [] }
@@ -75,6 +82,7 @@ pub fn every_edition_cut_as_the_first(alloc: Global, deck: &Deck) -> Result<Plan
 }
 
 /// Each item has the gap of its own disk.
+/// Promise: the program is its definition
 pub fn gap_right_for_one_disk_only(program: &Program) -> u32
     requires { program.now.disks ≡ four_slots }
     ensures { result ≡ 4 }
@@ -83,6 +91,7 @@ pub fn gap_right_for_one_disk_only(program: &Program) -> u32
 }
 
 /// An item's PIX number is its rate times its chunks.
+/// Promise: the program is its definition
 pub fn pix_forgets_the_chunks(program: &Program) -> u64
     requires { program.now.disks ≡ four_slots }
     ensures { result ≡ 10 }
@@ -91,6 +100,7 @@ pub fn pix_forgets_the_chunks(program: &Program) -> u64
 }
 
 /// A planned deck whose editions have exactly as many slots as allowed isn't too long.
+/// Promise: the program is its definition
 pub fn planned_too_long_from_the_limit_on(alloc: Global, deck: Deck) -> Result<Planned, PlanFault>
     requires { (e : ℕ) → e < count_editions deck → length (program (disks_in deck e)) ≡ MOST_SLOTS }
     ensures { IfErr result (λ e. e ≡ fault.NoMemory) }
@@ -99,6 +109,7 @@ pub fn planned_too_long_from_the_limit_on(alloc: Global, deck: Deck) -> Result<P
 }
 
 /// The number of minor cycles is the least common multiple of the frequencies.
+/// Promise: the program is its definition
 pub fn product_for_the_common_multiple(program: &Program) -> u32
     requires { program.now.disks ≡ two_and_four }
     ensures { result ≡ 4 }
@@ -107,6 +118,7 @@ pub fn product_for_the_common_multiple(program: &Program) -> u32
 }
 
 /// The program of a planned deck is its own, here of three items on two disks.
+/// Promise: the program is its definition
 pub fn program_of_another_deck(planned: &Planned) -> &Program
     requires rates { rates_in planned.now ≡ 5 ∷ 5 ∷ 9 ∷ [] }
     requires disks { planned.now.disks ≡ spec 1 2 ∷ spec 2 1 ∷ [] }
@@ -117,6 +129,7 @@ pub fn program_of_another_deck(planned: &Planned) -> &Program
 
 /// Items are ordered by their own rates, and of two with one rate the one with the smaller number comes first. It also refuses
 /// that the one with the greater number does.
+/// Promise: the program is its definition
 pub fn rate_of_another_item(alloc: Global, deck: &Deck) -> Result<Cut, NoMemory>
     requires rates { rates_in deck.now ≡ 5 ∷ 5 ∷ 9 ∷ [] }
     requires disks { deck.now.disks ≡ spec 1 2 ∷ spec 2 1 ∷ [] }
@@ -126,6 +139,7 @@ pub fn rate_of_another_item(alloc: Global, deck: &Deck) -> Result<Cut, NoMemory>
 }
 
 /// A program with exactly as many slots as allowed isn't too long.
+/// Promise: the program is its definition
 pub fn too_long_from_the_limit_on(
     alloc: Global,
     deck: &Deck,
@@ -139,6 +153,8 @@ pub fn too_long_from_the_limit_on(
 }
 
 /// Of two editions that are too long, the first is reported.
+/// Promise: every answer is a named one
+/// Promise: the program is its definition
 pub fn too_long_told_of_the_greatest_edition(alloc: Global, deck: &Deck) -> Result<Plans, PlanFault>
     requires replans { length deck.now.replans ≡ 2 }
     requires own { length (program (disks_in deck.now 0)) ≡ 3 }
@@ -150,6 +166,7 @@ pub fn too_long_told_of_the_greatest_edition(alloc: Global, deck: &Deck) -> Resu
 }
 
 /// The wait from a slot that carries the item is 0.
+/// Promise: the program is its definition
 pub fn wait_is_never_zero(program: &Program) -> u32
     requires { program.now.disks ≡ four_slots }
     ensures { result ≡ 0 }

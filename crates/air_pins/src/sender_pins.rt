@@ -8,13 +8,14 @@ ghost use Rattle.air_devices.specs.Masts.{fresh_mast};
 ghost use Rattle.air_sender.specs.AirFaults.{failed_slot};
 ghost use Rattle.air_sender.specs.TapeMasts.{tape_mast_state};
 ghost use Rattle.air_pins.specs.SmallPrograms.{idle_slot, in_edition, two_slots};
-ghost use Rattle.air_pins.specs.SmallAirings.{two_item_board, four_buckets, sent};
+ghost use Rattle.air_pins.specs.SmallAirings.{two_item_board, two_item_groups, four_buckets, group_buckets, sent};
 
 use air_base::{Form, Policy};
 use air_devices::{Failed, Mast};
-use air_sender::{AirFault, TapeMast, air_cycle, tape_bytes};
+use air_sender::{AirFault, TapeMast, air_cycle, air_group_cycle, tape_bytes};
 use chunk_program::{Plans, Program};
 use control_matrix::Board;
+use group_matrix::GroupBoard;
 
 /// Control columns, with their entries in full.
 const COLUMNS: Form = Form {
@@ -31,6 +32,7 @@ const AGES: Form = Form {
 /// If no send failed, the mast got the bucket of each slot, idle ones too, once and with its number; each has the board's
 /// cycle, and its item's own value and column. It also refuses idle slots that are skipped, a slot that is sent twice, slots
 /// that are counted from one, the cycle before, the value of another item, and that a failed send is ignored.
+/// Promise: the conductor airs the history
 pub fn column_of_another_item(
     program: &Program,
     board: &Board,
@@ -46,7 +48,25 @@ pub fn column_of_another_item(
     air_cycle(program, board, COLUMNS, mast, buf)
 }
 
+/// By groups of two items each has the column of both, which is greater than item 0's own.
+/// Promise: a cycle is aired by groups
+pub fn own_column_whatever_the_groups(
+    program: &Program,
+    groups: &GroupBoard,
+    mast: &mut TapeMast,
+    buf: &mut [u8],
+) -> Result<(), AirFault>
+    requires program { program.now ≡ in_edition 0 idle_slot }
+    requires groups { groups.now ≡ two_item_groups }
+    requires mast { tape_mast_state mast.old ≡ fresh_mast }
+    requires room { 32 ≤ length buf.old }
+    ensures { OnOk result (tape_mast_state mast.new ≡ record { told = Some (sent group_buckets); faults = 0; port = None }) }
+{
+    air_group_cycle(program, groups, COLUMNS, mast, buf)
+}
+
 /// In the form of version 2 the buckets are of version 2, also from a buffer that has no room for those of version 1.
+/// Promise: the conductor airs the history
 pub fn version_1_whatever_the_form(
     program: &Program,
     board: &Board,
@@ -65,6 +85,7 @@ pub fn version_1_whatever_the_form(
 /// After a fault there is a state of the mast directly before the send of the named slot: the buckets of the slots before had
 /// been sent, and no call had failed. Since then the count went up, and what the mast tells is unchanged. If a slot was sent
 /// again, there is no such state.
+/// Promise: a refusal leaves its objects
 pub fn next_slot_blamed_after_a_second_try<M: Mast>(
     program: &Program,
     board: &Board,
@@ -83,6 +104,7 @@ pub fn next_slot_blamed_after_a_second_try<M: Mast>(
 }
 
 /// Each bucket has the program's edition.
+/// Promise: the conductor airs the history
 pub fn edition_0_in_every_bucket(
     program: &Program,
     board: &Board,
@@ -99,6 +121,7 @@ pub fn edition_0_in_every_bucket(
 }
 
 /// A record includes the bytes of its length: 36 bytes with an item, 28 without one.
+/// Promise: buckets and tapes are their grammar
 pub fn record_size_without_its_length(plans: &Plans) -> u64
     requires replans { plans.now.replans ≡ [] }
     requires programs { plans.now.programs ≡ in_edition 0 idle_slot ∷ [] }
@@ -108,6 +131,7 @@ pub fn record_size_without_its_length(plans: &Plans) -> u64
 }
 
 /// In version 2 an entry takes one byte: a record with an item has 30 bytes.
+/// Promise: buckets and tapes are their grammar
 pub fn four_bytes_for_an_age(plans: &Plans) -> u64
     requires replans { plans.now.replans ≡ [] }
     requires programs { plans.now.programs ≡ in_edition 0 idle_slot ∷ [] }
@@ -117,6 +141,7 @@ pub fn four_bytes_for_an_age(plans: &Plans) -> u64
 }
 
 /// A cycle has the records of the edition in force: the first has 136 bytes, the two after the replan have 72 each.
+/// Promise: buckets and tapes are their grammar
 pub fn length_by_the_first_edition_alone(plans: &Plans) -> u64
     requires replans { plans.now.replans ≡ 2 ∷ [] }
     requires programs { plans.now.programs ≡ in_edition 0 idle_slot ∷ in_edition 1 two_slots ∷ [] }
@@ -126,6 +151,7 @@ pub fn length_by_the_first_edition_alone(plans: &Plans) -> u64
 }
 
 /// A replan after the cycles that are aired doesn't change the length.
+/// Promise: buckets and tapes are their grammar
 pub fn length_with_a_replan_that_no_cycle_reaches(plans: &Plans) -> u64
     requires replans { plans.now.replans ≡ 4 ∷ [] }
     requires programs { plans.now.programs ≡ in_edition 0 idle_slot ∷ in_edition 1 two_slots ∷ [] }
@@ -135,6 +161,7 @@ pub fn length_with_a_replan_that_no_cycle_reaches(plans: &Plans) -> u64
 }
 
 /// A bucket whose record has no room is refused.
+/// Promise: buckets and tapes are their grammar
 pub fn send_past_the_room_passes(mast: &mut TapeMast, bytes: &[u8]) -> Result<(), Failed>
     requires mast { mast.old.tape ≡ record { records = []; room = 10 } }
     requires bytes { bytes.now ≡ codes "seventh" }

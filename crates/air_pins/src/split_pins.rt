@@ -14,6 +14,7 @@ use item_catalog::Deck;
 use std::alloc::Global;
 
 /// Each disk has at least one item, also if nothing costs anything.
+/// Promise: the split is the least
 pub fn disk_that_takes_no_item(alloc: Global, deck: &Deck) -> Result<Split, SplitFault>
     requires { deck.now ≡ unrated }
     ensures sizes { IfOk result (λ split. split.sizes ≡ 1 ∷ 2 ∷ []) }
@@ -24,6 +25,7 @@ pub fn disk_that_takes_no_item(alloc: Global, deck: &Deck) -> Result<Split, Spli
 
 /// Of the splits that cost least, the one with the smallest first disk is given. It also refuses the first minor length that
 /// reaches the cost, which is that of 4 2, and the deck's own sizes.
+/// Promise: the split is the least
 pub fn greatest_list_among_equals(alloc: Global, deck: &Deck) -> Result<Split, SplitFault>
     requires { deck.now ≡ six }
     ensures sizes { IfOk result (λ split. split.sizes ≡ 1 ∷ 5 ∷ []) }
@@ -34,6 +36,7 @@ pub fn greatest_list_among_equals(alloc: Global, deck: &Deck) -> Result<Split, S
 }
 
 /// The split 255 1 costs less than any short one, and isn't given, since its program has 16,512 slots.
+/// Promise: the split is the least
 pub fn long_split_that_costs_less(alloc: Global, deck: &Deck) -> Result<Split, SplitFault>
     requires rates { rates_in deck.now ≡ but_the_last }
     requires disks { deck.now.disks ≡ spec 255 64 ∷ spec 1 3 ∷ [] }
@@ -43,6 +46,8 @@ pub fn long_split_that_costs_less(alloc: Global, deck: &Deck) -> Result<Split, S
 }
 
 /// The deck's own program has 20,160 slots, and the split 189 11 has 16,128, so the deck isn't refused.
+/// Promise: every answer is a named one
+/// Promise: the split is the least
 pub fn own_slots_refused(alloc: Global, deck: &Deck) -> Result<Split, SplitFault>
     requires items { length deck.now.items ≡ 200 }
     requires disks { deck.now.disks ≡ spec 199 64 ∷ spec 1 63 ∷ [] }
@@ -52,6 +57,8 @@ pub fn own_slots_refused(alloc: Global, deck: &Deck) -> Result<Split, SplitFault
 }
 
 /// The deck's own program has 24,192 slots, and each split has 20,160 or more: that number is reported.
+/// Promise: every answer is a named one
+/// Promise: the split is the least
 pub fn own_slots_told(alloc: Global, deck: &Deck) -> Result<Split, SplitFault>
     requires items { length deck.now.items ≡ 256 }
     requires disks { deck.now.disks ≡ spec 190 64 ∷ spec 66 63 ∷ [] }
@@ -62,6 +69,7 @@ pub fn own_slots_told(alloc: Global, deck: &Deck) -> Result<Split, SplitFault>
 }
 
 /// A search of exactly the limit isn't too much.
+/// Promise: the split is the least
 pub fn too_much_from_the_limit_on() -> Result<(), SplitFault>
     ensures { IfErr result (λ e. ⊥) }
 {
@@ -69,6 +77,7 @@ pub fn too_much_from_the_limit_on() -> Result<(), SplitFault>
 }
 
 /// A search of one more is too much, and its size is reported.
+/// Promise: the split is the least
 pub fn too_much_let_through() -> Result<(), SplitFault>
     ensures refused { IsErr result }
     ensures product { IfErr result (λ e. e ≡ fault.TooMuch 600_001) }
@@ -78,6 +87,7 @@ pub fn too_much_let_through() -> Result<(), SplitFault>
 
 /// A cost counts the chunks of each disk: without them the fewest slots, 1 4, would be best. It also refuses the deck's own
 /// sizes.
+/// Promise: the split is the least
 pub fn weight_without_its_chunks(alloc: Global, deck: &Deck) -> Result<Split, SplitFault>
     requires { deck.now ≡ five }
     ensures sizes { IfOk result (λ split. split.sizes ≡ 3 ∷ 2 ∷ []) }

@@ -175,6 +175,7 @@ within = record {
   script = omega arith;
   starts = omega arith;
   settings = record {
+    group = omega arith;
     cycles = omega arith;
     seed = omega arith;
     loss = omega arith;

@@ -25,7 +25,7 @@ deck = record {
   readers = record { room = 0; age = 0; tries = 2 } ∷ [];
   queries = ((0 ∷ 1 ∷ []) ∷ []) ∷ [];
   script = [];
-  settings = record { policy = FMatrix; version = 1; cycles = 1; seed = 0; loss = 0; again = 0; late = 0; monitors = 1; hears = 1 };
+  settings = record { policy = FMatrix; version = 1; group = 0; cycles = 1; seed = 0; loss = 0; again = 0; late = 0; monitors = 1; hears = 1 };
 }
 
 -- The same deck with buckets that have ages.

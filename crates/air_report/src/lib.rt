@@ -25,5 +25,5 @@ pub use reading::texts::read_lines;
 pub use reading::{ReadReport, read_report};
 pub use status::Status;
 pub use status::refusal::refusal_line;
-pub use writing::fields::{finish, put_numbers, put_row, row_writer};
+pub use writing::fields::{add_numbers, add_row, finish, put_numbers, row_writer};
 pub use writing::report::{Report, write_report};

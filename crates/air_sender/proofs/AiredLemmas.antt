@@ -2,7 +2,7 @@
 --
 -- What comes later changes no bucket of a started cycle, so the buckets that were sent stay those of the history. The board of
 -- a deck has as many values as the deck has items. The steps of a run cite these.
-use Rattle.std.proofs.Common.{◌≡◌, ℕ, zero, suc, ◌+◌, ◌<◌, ◌≤◌, true, false, cond, List, [], ◌∷◌, ◌++◌, Some, length, map, get_or, refl, sym, ◌∙◌, ap, subst, inl, inr, arith, length-append}
+use Rattle.std.proofs.Common.{◌≡◌, ℕ, zero, suc, ◌+◌, ◌<◌, ◌≤◌, true, false, cond, nat_lt, List, [], ◌∷◌, ◌++◌, Some, length, map, get_or, refl, sym, ◌∙◌, ap, subst, inl, inr, arith, length-append}
 use Rattle.std.specs.Prelude.{IsTrue, sum_by}
 use Rattle.std.specs.Result.{result_ok}
 use Rattle.std.specs.List.{flat_map, range_with_len}
@@ -15,16 +15,20 @@ use Rattle.std.proofs.lemmas.List.Sums.{sum_by-append}
 use Rattle.air_history.specs.declared.histories.Event.{Event}
 use Rattle.air_history.specs.declared.histories.Event.TheVariants.{Commit, Start}
 use Rattle.air_history.specs.Histories.{is_start, starts}
+use Rattle.air_base.specs.declared.verdicts.Policy.{Policy}
+use Rattle.air_base.specs.declared.verdicts.Policy.TheVariants.{FMatrix, Datacycle, RMatrix}
+use Rattle.air_history.specs.Columns.{Scheme}
 use Rattle.air_history.specs.Boards.{Board, board_of}
+use Rattle.group_matrix.specs.GroupBoards.{grouped}
 use Rattle.air_history.specs.Tables.{table, values_of}
 use Rattle.air_base.specs.declared.verdicts.Form.{Form}
 use Rattle.air_model.specs.Buckets.{Bucket, IsInRange, bucket_in, most_count, spelling}
-use Rattle.air_model.specs.Aired.{Air, air_of, bucket_of, buckets_of, edition_at, fits, slots_at}
+use Rattle.air_model.specs.Aired.{scheme_in, Air, air_of, bucket_of, buckets_of, edition_at, fits, slots_at}
 use Rattle.air_model.specs.AiredLaws.{CanAir}
 use Rattle.air_model.specs.Decks.{Deck, IsDeck, disks_in, edition, values_in}
 use Rattle.air_model.specs.Disks.{Disk}
 use Rattle.air_model.specs.Programs.{program}
-use Rattle.air_sender.specs.BoardBuckets.{board_buckets, board_bytes, bucket_on, form_of}
+use Rattle.air_sender.specs.BoardBuckets.{aired_board, spread, board_buckets, board_bytes, bucket_on, form_of}
 use Rattle.air_sender.proofs.StartedBoards.{OwnCycleLaw}
 use Rattle.air_devices.specs.Masts.{SentBuckets}
 use Rattle.air_sender.specs.AiredBytes.{aired_bytes}
@@ -110,6 +114,15 @@ module _ (values : List ℕ) (air : Air) where
 pub told_alike : {s t : SentBuckets} → Some s ≡ Some t → s ≡ t
 told_alike e = cc
 
+-- Without groups a cycle is aired from the board itself.
+pub plain_board : (scheme : Scheme) (board : Board) → scheme.group ≡ 0 → board ≡ aired_board scheme board
+plain_board scheme board none = by scheme.policy scheme.group none
+  where
+    by : (p : Policy) (g : ℕ) → g ≡ 0 → board ≡ aired_board (record { policy = p; group = g }) board
+    by FMatrix g none = sym (ap (λ g. cond (nat_lt 0 g) (spread (grouped g board)) board) none)
+    by Datacycle g none = refl
+    by RMatrix g none = refl
+
 -- A board has a value for each item.
 pub values_kept : (deck : Deck) (board : Board) (H : List Event) → board ≡ board_of (values_in deck) H → length board.values ≡ length deck.items
 values_kept deck board H is =
@@ -135,46 +148,47 @@ module _ (deck : Deck) (G : List Event) (e : Event) (board : Board) (is : board 
   own_slots : (disks : List Disk) (c : ℕ) → disks ≡ disks_in deck (edition deck c) → program disks ≡ slots_at (air_of deck) c
   own_slots disks c d = ap program d ∙ sym (slots_are deck c)
 
-  -- the buckets that the board airs are those of the new cycle of the history
-  pub start_buckets : OwnCycleLaw → IsDeck deck → is_start e ≡ true → (form : Form) (p : EditionDisks) → form ≡ form_of (air_of deck) → p ≡ edition_disks deck (edition deck board.cycle)
-      → board_buckets form p.edition (program p.disks) board ≡ buckets_in (values_in deck) (air_of deck) (G ++ Start ∷ []) (starts (G ++ Start ∷ []))
-  start_buckets own made start form p f d =
+  -- the buckets that are aired from the board are those of the new cycle of the history
+  pub start_buckets : OwnCycleLaw → IsDeck deck → is_start e ≡ true → (source : Board) → source ≡ aired_board (scheme_in deck) board → (form : Form) (p : EditionDisks) → form ≡ form_of (air_of deck) → p ≡ edition_disks deck (edition deck board.cycle)
+      → board_buckets form p.edition (program p.disks) source ≡ buckets_in (values_in deck) (air_of deck) (G ++ Start ∷ []) (starts (G ++ Start ∷ []))
+  start_buckets own made start source from form p f d =
       let a = air_of deck in
       let c = starts (G ++ Start ∷ []) in
       let slots = program p.disks in
       let now : board.cycle ≡ c = ap (λ (b : Board). b.cycle) (started_board start) in
       let disks : p.disks ≡ disks_in deck (edition deck c) = ap (λ (p : EditionDisks). p.disks) d ∙ ap (λ n. disks_in deck (edition deck n)) now in
       let number : p.edition ≡ edition deck c = ap (λ (p : EditionDisks). p.edition) d ∙ ap (edition deck) now in
-      ap (λ form. board_buckets form p.edition slots board) f ∙ ap (λ e. board_buckets (form_of a) e slots board) (own_edition p.edition c number)
-      ∙ ap (λ xs. board_buckets (form_of a) (edition_at a c) xs board) (own_slots p.disks c disks) ∙ ap (board_buckets (form_of a) (edition_at a c) (slots_at a c)) (started_board start)
+      ap (λ form. board_buckets form p.edition slots source) f ∙ ap (λ e. board_buckets (form_of a) e slots source) (own_edition p.edition c number)
+      ∙ ap (λ xs. board_buckets (form_of a) (edition_at a c) xs source) (own_slots p.disks c disks)
+      ∙ ap (board_buckets (form_of a) (edition_at a c) (slots_at a c)) (from ∙ ap (aired_board (scheme_in deck)) (started_board start))
       ∙ own (values_in deck) a G (sym (length-map deck.items (λ i. i.value))) ((air deck made).0)
 
-  -- what the board airs is the new cycle of the history
-  pub start_aired : OwnCycleLaw → IsDeck deck → is_start e ≡ true → (form : Form) (p : EditionDisks) (before after : List (List ℕ)) → form ≡ form_of (air_of deck) → p ≡ edition_disks deck (edition deck board.cycle)
-      → before ≡ aired_bytes deck G → after ≡ before ++ board_bytes form p.edition (program p.disks) board → after ≡ aired_bytes deck (G ++ e ∷ [])
-  start_aired own made start form p before after f d so_far grew =
+  -- what is aired from the board is the new cycle of the history
+  pub start_aired : OwnCycleLaw → IsDeck deck → is_start e ≡ true → (source : Board) → source ≡ aired_board (scheme_in deck) board → (form : Form) (p : EditionDisks) (before after : List (List ℕ)) → form ≡ form_of (air_of deck) → p ≡ edition_disks deck (edition deck board.cycle)
+      → before ≡ aired_bytes deck G → after ≡ before ++ board_bytes form p.edition (program p.disks) source → after ≡ aired_bytes deck (G ++ e ∷ [])
+  start_aired own made start source from form p before after f d so_far grew =
       let values = values_in deck in
       let a = air_of deck in
       let new = G ++ Start ∷ [] in
       let slots = program p.disks in
-      grew ∙ ap (λ l. l ++ board_bytes form p.edition slots board) so_far ∙ ap (λ l. aired_bytes deck G ++ map spelling l) (start_buckets own made start form p f d)
+      grew ∙ ap (λ l. l ++ board_bytes form p.edition slots source) so_far ∙ ap (λ l. aired_bytes deck G ++ map spelling l) (start_buckets own made start source from form p f d)
       ∙ sym (map-append spelling (buckets_of values a G) (buckets_in values a new (starts new))) ∙ ap (map spelling) (sym (buckets_start values a G))
       ∙ ap (λ e. aired_bytes deck (G ++ e ∷ [])) (sym (start_event e start))
 
   -- if the history with the start can be aired, each of these buckets fits, and is what its bytes spell
-  pub start_heard : OwnCycleLaw → CanAir deck (G ++ e ∷ []) → is_start e ≡ true → (form : Form) (p : EditionDisks) → form ≡ form_of (air_of deck) → p ≡ edition_disks deck (edition deck board.cycle)
+  pub start_heard : OwnCycleLaw → CanAir deck (G ++ e ∷ []) → is_start e ≡ true → (source : Board) → source ≡ aired_board (scheme_in deck) board → (form : Form) (p : EditionDisks) → form ≡ form_of (air_of deck) → p ≡ edition_disks deck (edition deck board.cycle)
       → (s : ℕ) → s < length (program p.disks)
-      → (let b = bucket_on form p.edition (program p.disks) board s in IsTrue (fits (air_of deck) b) × (bucket_in (spelling b) ≡ Some b))
-  start_heard own can start form p f d s l =
+      → (let b = bucket_on form p.edition (program p.disks) source s in IsTrue (fits (air_of deck) b) × (bucket_in (spelling b) ≡ Some b))
+  start_heard own can start source from form p f d s l =
       let values = values_in deck in
       let a = air_of deck in
       let new = G ++ Start ∷ [] in
       let slots = program p.disks in
-      let on : ℕ → Bucket = bucket_on form p.edition slots board in
+      let on : ℕ → Bucket = bucket_on form p.edition slots source in
       let all = buckets_of values a new in
       let first = buckets_of values a G in
       let can_new : CanAir deck new = subst (λ e. CanAir deck (G ++ e ∷ [])) (start_event e start) can in
-      let whole : all ≡ first ++ map on (range_with_len 0 (length slots)) = buckets_start values a G ∙ ap (λ l. first ++ l) (sym (start_buckets own can.made start form p f d)) in
+      let whole : all ≡ first ++ map on (range_with_len 0 (length slots)) = buckets_start values a G ∙ ap (λ l. first ++ l) (sym (start_buckets own can.made start source from form p f d)) in
       let size = length-map-range_with_len on 0 (length slots) in
       let place : length first + s < length all = omega (arith, l, size, ap length whole, length-append first (map on (range_with_len 0 (length slots)))) in
       let is : get_or all (length first + s) (on s) ≡ on s =

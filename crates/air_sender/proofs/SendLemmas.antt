@@ -1,7 +1,7 @@
 -- Buckets that were sent one after the other: what the mast tells then.
 -- `sent_none`, `sent_more` and `sent_all` are the loop over the slots. `last_bytes_are` says of which history the buckets are, and `sent_up_to` what
 -- was sent if the mast failed.
-use Rattle.std.proofs.Common.{◌≡◌, ◌<◌, ◌+◌, ◌++◌, ◌∙◌, ℕ, Bool, true, false, Option, Some, None, List, [], ◌∷◌, length, map, take, get_or, sym, ap, subst, arith, append_assoc}
+use Rattle.std.proofs.Common.{◌≡◌, ◌<◌, ◌+◌, ◌++◌, ◌∙◌, ℕ, Bool, true, false, cond, refl, Option, Some, None, List, [], ◌∷◌, length, map, take, get_or, sym, ap, subst, arith, append_assoc}
 use Rattle.std.specs.Prelude.{Result, Ok, Err, OnErr, OnOk}
 use Rattle.std.specs.Result.{is_err}
 use Rattle.std.proofs.lemmas.Bool.{false≢true}
@@ -11,7 +11,9 @@ use Rattle.std.proofs.lemmas.List.FromFn.{get_or-map-range_with_len, length-map-
 use Rattle.air_base.specs.declared.verdicts.Form.{Form}
 use Rattle.air_history.specs.declared.histories.Event.{Event}
 use Rattle.air_history.specs.declared.histories.Event.TheVariants.{Start}
+use Rattle.air_history.specs.Columns.{Scheme, has_groups}
 use Rattle.air_history.specs.Boards.{Board, board_of}
+use Rattle.group_matrix.specs.GroupBoards.{grouped}
 use Rattle.air_history.specs.Tables.{table, values_of}
 use Rattle.air_history.specs.Histories.{starts}
 use Rattle.air_model.specs.Buckets.{Body, Bucket, capped_bucket, spelling}
@@ -20,7 +22,7 @@ use Rattle.air_devices.specs.Masts.{Changes, MastState, SentBuckets, with_bucket
 use Rattle.air_sender.specs.AirFaults.{IsAirAnswer, failed_slot}
 use Rattle.air_sender.specs.declared.airing.AirFault.{AirFault}
 use Rattle.air_sender.specs.declared.airing.AirFault.TheVariants as fault
-use Rattle.air_sender.specs.BoardBuckets.{IsLastBoard, board_buckets, board_bytes, body_on, bucket_on, form_of, last_bytes}
+use Rattle.air_sender.specs.BoardBuckets.{IsLastBoard, aired_board, spread, board_buckets, board_bytes, body_on, bucket_on, form_of, last_bytes}
 use Rattle.air_sender.proofs.RangeLemmas.{told_spelling}
 use Rattle.air_sender.proofs.StartedBoards.{last_cycle}
 
@@ -85,11 +87,19 @@ refused (Ok x) failed told is h = absurd (false≢true (sym told ∙ is))
 
 -- ---- of which history they are
 
+-- By groups a board has the same values.
+aired_values : (scheme : Scheme) (board : Board) → length (aired_board scheme board).values ≡ length board.values
+aired_values scheme board = by (has_groups scheme)
+  where
+    by : (b : Bool) → length (cond b (spread (grouped scheme.group board)) board).values ≡ length board.values
+    by true = refl
+    by false = refl
+
 last_is : (values : List ℕ) (air : Air) (G : List Event) (form : Form) (e : ℕ) (slots : List (Option ℕ)) (board : Board) → IsLastBoard values air G form e slots board
     → All (λ o. IfSome o (λ i. i < length board.values)) slots → board_bytes form e slots board ≡ last_bytes values air G
 last_is values air G form e slots board is fit =
-    let now = board_of values (G ++ Start ∷ []) in
-    let sized : length board.values ≡ air.items = ap (λ (b : Board). length b.values) is.board ∙ length-map-range_with_len (table (values_of values) (G ++ Start ∷ [])) 0 (length values) ∙ sym is.items in
+    let now = aired_board air.scheme (board_of values (G ++ Start ∷ [])) in
+    let sized : length board.values ≡ air.items = ap (λ (b : Board). length b.values) is.board ∙ aired_values air.scheme (board_of values (G ++ Start ∷ [])) ∙ length-map-range_with_len (table (values_of values) (G ++ Start ∷ [])) 0 (length values) ∙ sym is.items in
     let fits : All (λ o. IfSome o (λ i. i < air.items)) (slots_at air (starts (G ++ Start ∷ []))) =
     subst (λ xs. All (λ o. IfSome o (λ i. i < air.items)) xs) (sym is.slots) (subst (λ n. All (λ o. IfSome o (λ i. i < n)) slots) sized fit) in
     ap (λ (b : Board). board_bytes form e slots b) is.board

@@ -1,9 +1,10 @@
 -- The board of a history that ends with a start: it is the board of what came before, in the next cycle.
 -- `own_cycle` and `below` are the two laws that the sender depends on.
-use Rattle.std.proofs.Common.{◌≡◌, ℕ, zero, suc, ◌+◌, ◌<◌, cond, Option, Some, None, List, [], ◌∷◌, ◌++◌, length, map, get_or, refl, sym, ◌∙◌, ap, subst, arith}
+use Rattle.std.proofs.Common.{◌≡◌, ℕ, zero, suc, ◌+◌, ◌<◌, Bool, true, false, cond, Option, Some, None, List, [], ◌∷◌, ◌++◌, length, map, get_or, refl, sym, ◌∙◌, ap, subst, arith}
 use Rattle.std.specs.Prelude.{All, IfSome}
 use Rattle.std.specs.List.{range_with_len}
 use Rattle.std.specs.Option.{option_map_or}
+use Rattle.std.proofs.lemmas.Bool.{ltb-true}
 use Rattle.std.proofs.lemmas.List.Elements.{All-nil}
 use Rattle.std.proofs.lemmas.List.Sums.{sum_by-cons}
 use Rattle.std.proofs.lemmas.List.FromFn.{fill_by_all, get_or-map-range_with_len, length-map-range_with_len}
@@ -13,17 +14,20 @@ use Rattle.air_history.specs.UpdateLists.{UpdateLists}
 use Rattle.air_history.specs.declared.histories.Event.{Event}
 use Rattle.air_history.specs.declared.histories.Event.TheVariants.{Commit, Start}
 use Rattle.air_history.specs.Histories.{ItemsFit, cycle_at, front, is_start, starts, writer}
-use Rattle.air_history.specs.Columns.{policy_entries, column, column_entry, vector, vector_entry}
+use Rattle.air_history.specs.Columns.{Scheme, airs_groups, column, column_entry, group_column, group_entry, group_of, has_groups, policy_entries, vector, vector_entry}
 use Rattle.air_history.specs.Reads.{read_value}
 use Rattle.air_history.specs.Tables.{BasesRead, table, table_list, values_of}
 use Rattle.air_history.specs.Boards.{Board, board_of, columns}
+use Rattle.air_history.proofs.GroupLemmas.{greatest_of_below}
 use Rattle.air_history.proofs.PlaceLemmas.{greatest_below}
 use Rattle.air_history.proofs.HistoryLemmas.{front_cycle, front_cycle_same, writer_before_some}
 use Rattle.control_matrix.proofs.BoardLemmas.{board_push, start_board}
+use Rattle.group_matrix.specs.GroupBoards.{grouped, item_column}
+use Rattle.group_matrix.proofs.GroupLemmas.{of_events}
 use Rattle.air_model.specs.Buckets.{Body, Bucket, capped_bucket}
 use Rattle.air_model.specs.Aired.{Air, SlotsFit, aired_as, body_of, bucket_of, edition_at, slots_at}
 use Rattle.air_model.proofs.CapLemmas.{at_or_none}
-use Rattle.air_sender.specs.BoardBuckets.{EntriesBelow, board_buckets, body_on, bucket_on, entries_on, form_of}
+use Rattle.air_sender.specs.BoardBuckets.{EntriesBelow, aired_board, spread, board_buckets, body_on, bucket_on, entries_on, form_of}
 
 -- ---- the front of the last cycle
 
@@ -95,51 +99,109 @@ board_body p values G item l = ap (λ v. aired_as p item v (entries_on p (next_c
     by Datacycle = refl
     by RMatrix = refl
 
-slot_body : (values : List ℕ) (air : Air) (G : List Event) (o : Option ℕ) → air.items ≡ length values → IfSome o (λ i. i < air.items) →
-    body_on air.scheme.policy (next_cycle values G) o ≡ body_of values air (G ++ Start ∷ []) (starts G + 1) o
-unfolding body_on body_of
-slot_body values air G None n h = ap (λ k. let y : Body = Rattle.air_model.specs.Buckets.Idle k in y) (length-map-range_with_len (table (values_of values) G) 0 (length values) ∙ sym n)
-slot_body values air G (Some item) n h =
+-- The body of a slot with an item, where the scheme airs by groups or not.
+told_body : Bool → List ℕ → Air → List Event → ℕ → ℕ → Body
+told_body b values air H c item = aired_as air.scheme.policy item (read_value (values_of values) H (record { item = item; cycle = c }))
+    (cond b (group_column air.scheme.group air.items (front H c) item) (policy_entries air.scheme.policy air.items H c item))
+
+plain_body : (values : List ℕ) (air : Air) (G : List Event) (item : ℕ) → air.items ≡ length values → item < air.items →
+    body_on air.scheme.policy (next_cycle values G) (Some item) ≡ told_body false values air (G ++ Start ∷ []) (starts G + 1) item
+unfolding told_body
+plain_body values air G item n h =
     board_body air.scheme.policy values G item (omega arith)
     ∙ ap (λ k. body_by air.scheme.policy values k G item) (sym n)
     ∙ ap (λ F. body_by air.scheme.policy values air.items F item) (sym (front_started G))
     ∙ sym (history_body air.scheme.policy values air.items (G ++ Start ∷ []) (starts G + 1) item)
 
-slot_bucket : (values : List ℕ) (air : Air) (G : List Event) (e s : ℕ) (slots : List (Option ℕ)) → air.items ≡ length values → e ≡ edition_at air (starts G + 1) → slots ≡ slots_at air (starts G + 1)
-    → IfSome (get_or slots s None) (λ i. i < air.items) → bucket_on (form_of air) e slots (next_cycle values G) s ≡ bucket_of values air (G ++ Start ∷ []) air.version (starts G + 1) s
+-- Groups come under F-Matrix.
+grouped_policy : (p : Policy) (g : ℕ) → airs_groups p g ≡ true → (p ≡ FMatrix) × (0 < g)
+grouped_policy FMatrix g e = (refl, ltb-true 0 g e)
+grouped_policy Datacycle g e = cc
+grouped_policy RMatrix g e = cc
+
+-- By groups an item is aired with its group column.
+spread_column : (values : List ℕ) (G : List Event) (g item : ℕ) → 0 < g → item < length values →
+    get_or (spread (grouped g (next_cycle values G))).columns item [] ≡ group_column g (length values) G item
+spread_column values G g item pos inside =
+    let sized : length (table_list values G) ≡ length values = length-map-range_with_len (table (values_of values) G) 0 (length values) in
+    get_or-map-range_with_len (item_column (grouped g (next_cycle values G))) 0 (length (table_list values G)) item item [] (omega arith) (omega arith)
+    ∙ (of_events g values G pos).columns item inside
+
+group_body : (values : List ℕ) (air : Air) (G : List Event) (item : ℕ) → has_groups air.scheme ≡ true → air.items ≡ length values → item < air.items →
+    body_on air.scheme.policy (spread (grouped air.scheme.group (next_cycle values G))) (Some item) ≡ told_body true values air (G ++ Start ∷ []) (starts G + 1) item
+unfolding body_on told_body
+group_body values air G item groups n h =
+    let g = air.scheme.group in
+    let p = grouped_policy air.scheme.policy g groups in
+    let board = spread (grouped g (next_cycle values G)) in
+    ap (λ v. aired_as air.scheme.policy item v (entries_on air.scheme.policy board item)) (get_or-map-range_with_len (table (values_of values) G) 0 (length values) item item 0 (omega arith) (omega arith))
+    ∙ ap (λ F. aired_as air.scheme.policy item (table (values_of values) F item) (entries_on air.scheme.policy board item)) (sym (front_started G))
+    ∙ ap (aired_as air.scheme.policy item (table (values_of values) (front (G ++ Start ∷ []) (starts G + 1)) item))
+    (ap (λ q. entries_on q board item) p.0 ∙ spread_column values G g item p.1 (omega arith) ∙ ap (λ k. group_column g k G item) (sym n)
+    ∙ ap (λ F. group_column g air.items F item) (sym (front_started G)))
+
+-- What is aired from, as a choice.
+chosen : Bool → Scheme → Board → Board
+chosen b scheme board = cond b (spread (grouped scheme.group board)) board
+
+chosen_cycle : (b : Bool) (scheme : Scheme) (board : Board) → (chosen b scheme board).cycle ≡ board.cycle
+unfolding chosen
+chosen_cycle true scheme board = refl
+chosen_cycle false scheme board = refl
+
+slot_body : (b : Bool) (values : List ℕ) (air : Air) (G : List Event) (o : Option ℕ) → has_groups air.scheme ≡ b → air.items ≡ length values → IfSome o (λ i. i < air.items) →
+    body_on air.scheme.policy (chosen b air.scheme (next_cycle values G)) o ≡ body_of values air (G ++ Start ∷ []) (starts G + 1) o
+unfolding body_on body_of told_body chosen
+slot_body true values air G None groups n h = ap (λ k. let y : Body = Rattle.air_model.specs.Buckets.Idle k in y) (length-map-range_with_len (table (values_of values) G) 0 (length values) ∙ sym n)
+slot_body false values air G None groups n h = ap (λ k. let y : Body = Rattle.air_model.specs.Buckets.Idle k in y) (length-map-range_with_len (table (values_of values) G) 0 (length values) ∙ sym n)
+slot_body true values air G (Some item) groups n h = group_body values air G item groups n h ∙ ap (λ b. told_body b values air (G ++ Start ∷ []) (starts G + 1) item) (sym groups)
+slot_body false values air G (Some item) groups n h = plain_body values air G item n h ∙ ap (λ b. told_body b values air (G ++ Start ∷ []) (starts G + 1) item) (sym groups)
+
+slot_bucket : (b : Bool) (values : List ℕ) (air : Air) (G : List Event) (e s : ℕ) (slots : List (Option ℕ)) → has_groups air.scheme ≡ b → air.items ≡ length values → e ≡ edition_at air (starts G + 1)
+    → slots ≡ slots_at air (starts G + 1) → IfSome (get_or slots s None) (λ i. i < air.items)
+    → bucket_on (form_of air) e slots (chosen b air.scheme (next_cycle values G)) s ≡ bucket_of values air (G ++ Start ∷ []) air.version (starts G + 1) s
 unfolding bucket_on bucket_of
-slot_bucket values air G e s slots n edition own h =
+slot_bucket b values air G e s slots groups n edition own h =
     let c = starts G + 1 in
-    ap (λ y. capped_bucket (record { version = air.version; edition = e; cycle = c; slot = s; body = y })) (slot_body values air G (get_or slots s None) n h
+    ap (λ k. capped_bucket (record { version = air.version; edition = e; cycle = k; slot = s; body = body_on air.scheme.policy (chosen b air.scheme (next_cycle values G)) (get_or slots s None) })) (chosen_cycle b air.scheme (next_cycle values G))
+    ∙ ap (λ y. capped_bucket (record { version = air.version; edition = e; cycle = c; slot = s; body = y })) (slot_body b values air G (get_or slots s None) groups n h
     ∙ ap (λ xs. body_of values air (G ++ Start ∷ []) c (get_or xs s None)) own)
     ∙ ap (λ k. capped_bucket (record { version = air.version; edition = k; cycle = c; slot = s; body = body_of values air (G ++ Start ∷ []) c (get_or (slots_at air c) s None) })) edition
 
 -- The statement of `own_cycle_law`, for those who take it from there.
 abbrev pub OwnCycleLaw : Type 0
 OwnCycleLaw = (values : List ℕ) (air : Air) (G : List Event) → air.items ≡ length values → SlotsFit air →
-    board_buckets (form_of air) (edition_at air (starts (G ++ Start ∷ []))) (slots_at air (starts (G ++ Start ∷ []))) (board_of values (G ++ Start ∷ []))
+    board_buckets (form_of air) (edition_at air (starts (G ++ Start ∷ []))) (slots_at air (starts (G ++ Start ∷ []))) (aired_board air.scheme (board_of values (G ++ Start ∷ [])))
     ≡ map (bucket_of values air (G ++ Start ∷ []) air.version (starts (G ++ Start ∷ []))) (range_with_len 0 (length (slots_at air (starts (G ++ Start ∷ [])))))
 
 -- A cycle's slots have items of the catalog.
 slots_fit : (air : Air) (c : ℕ) → SlotsFit air → All (λ o. IfSome o (λ i. i < air.items)) (slots_at air c)
 slots_fit air c fit = at_or_none (All (λ o. IfSome o (λ i. i < air.items))) air.slots (edition_at air c) fit (All-nil _)
 
+-- The bucket of a slot of what is aired from.
+told_slot : (values : List ℕ) (air : Air) (G : List Event) (e s : ℕ) (slots : List (Option ℕ)) → air.items ≡ length values → e ≡ edition_at air (starts G + 1)
+    → slots ≡ slots_at air (starts G + 1) → IfSome (get_or slots s None) (λ i. i < air.items)
+    → bucket_on (form_of air) e slots (aired_board air.scheme (next_cycle values G)) s ≡ bucket_of values air (G ++ Start ∷ []) air.version (starts G + 1) s
+unfolding chosen
+told_slot values air G e s slots n edition own h = slot_bucket (has_groups air.scheme) values air G e s slots refl n edition own h
+
 -- The same, if the slots of this one cycle have items of the catalog.
 pub last_cycle : (values : List ℕ) (air : Air) (G : List Event) → air.items ≡ length values → All (λ o. IfSome o (λ i. i < air.items)) (slots_at air (starts (G ++ Start ∷ []))) →
-    board_buckets (form_of air) (edition_at air (starts (G ++ Start ∷ []))) (slots_at air (starts (G ++ Start ∷ []))) (board_of values (G ++ Start ∷ []))
+    board_buckets (form_of air) (edition_at air (starts (G ++ Start ∷ []))) (slots_at air (starts (G ++ Start ∷ []))) (aired_board air.scheme (board_of values (G ++ Start ∷ [])))
     ≡ map (bucket_of values air (G ++ Start ∷ []) air.version (starts (G ++ Start ∷ []))) (range_with_len 0 (length (slots_at air (starts (G ++ Start ∷ [])))))
 last_cycle values air G n fit =
     let H = G ++ Start ∷ [] in
     let c = starts H in
     let e = edition_at air c in
     let slots = slots_at air c in
-    let on : ℕ → Bucket = bucket_on (form_of air) e slots (next_cycle values G) in
+    let now = aired_board air.scheme (next_cycle values G) in
+    let on : ℕ → Bucket = bucket_on (form_of air) e slots now in
     let push : c ≡ starts G + 1 = starts_push values G in
-    ap (board_buckets (form_of air) e slots) (started values G)
+    ap (λ b. board_buckets (form_of air) e slots (aired_board air.scheme b)) (started values G)
     ∙ fill_by_all (bucket_of values air H air.version (starts G + 1)) (map on (range_with_len 0 (length slots))) (length slots) (on 0)
     (length-map-range_with_len on 0 (length slots))
     (λ s l. get_or-map-range_with_len on 0 (length slots) s s _ l (omega arith)
-    ∙ slot_bucket values air G e s slots n (ap (edition_at air) push) (ap (slots_at air) push) (fit s None l))
+    ∙ told_slot values air G e s slots n (ap (edition_at air) push) (ap (slots_at air) push) (fit s None l))
     ∙ ap (λ c. map (bucket_of values air H air.version c) (range_with_len 0 (length slots))) (sym push)
 
 pub own_cycle : OwnCycleLaw
@@ -167,6 +229,10 @@ vector_below G i = by (writer G i) refl
     by None e = omega arith
     by (Some w) e = place_below G w ((writer_before_some G (length G) i w e).0)
 
+group_below : (g n : ℕ) (G : List Event) (j i : ℕ) → group_entry g n G j i < starts G + 1
+unfolding group_entry
+group_below g n G j i = greatest_of_below (λ q. column_entry G q i) (starts G + 1) (group_of g n j) (omega arith) (λ q. column_below G q i)
+
 row_below : {X : Type 0} (P : X → Type 0) (f : ℕ → X) (n : ℕ) → ((i : ℕ) → P (f i)) → All P (map f (range_with_len 0 n))
 row_below P f n h k d l =
     let within : k < n = omega (arith, length-map-range_with_len f 0 n) in
@@ -176,4 +242,19 @@ pub below : (values : List ℕ) (G : List Event) → EntriesBelow (board_of valu
 below values G = subst EntriesBelow (sym (started values G)) (record {
   columns = row_below (All (λ e. e < starts G + 1)) (column (length values) G) (length values) (λ j. row_below (λ e. e < starts G + 1) (column_entry G j) (length values) (column_below G j));
   vector = row_below (λ e. e < starts G + 1) (vector_entry G) (length values) (vector_below G);
+})
+
+-- So are those by groups.
+pub groups_below : (g : ℕ) (values : List ℕ) (G : List Event) → 0 < g → EntriesBelow (spread (grouped g (board_of values (G ++ Start ∷ []))))
+groups_below g values G pos = subst (λ b. EntriesBelow (spread (grouped g b))) (sym (started values G)) (record {
+  columns = λ j d l.
+      let n = length values in
+      let many : length (table_list values G) ≡ n = length-map-range_with_len (table (values_of values) G) 0 n in
+      let each = length-map-range_with_len (item_column (grouped g (next_cycle values G))) 0 (length (table_list values G)) in
+      let inside : j < n = omega arith in
+      let at : get_or (spread (grouped g (next_cycle values G))).columns j d ≡ group_column g n G j =
+      get_or-map-range_with_len (item_column (grouped g (next_cycle values G))) 0 (length (table_list values G)) j j d (omega arith) (omega arith)
+      ∙ (of_events g values G pos).columns j inside in
+      subst (All (λ e. e < starts G + 1)) (sym at) (row_below (λ e. e < starts G + 1) (group_entry g n G j) n (group_below g n G j));
+  vector = All-nil (λ e. e < starts G + 1);
 })

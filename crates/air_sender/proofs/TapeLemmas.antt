@@ -19,7 +19,7 @@ use Rattle.air_model.specs.Buckets.{Bucket, capped_bucket, entries_of, entry_len
 use Rattle.air_model.specs.Decks.{Deck, IsDeck, count_editions, disks_in, script_history, values_in}
 use Rattle.air_model.specs.Programs.{program}
 use Rattle.air_model.specs.Tapes.{tape_of, tape_read}
-use Rattle.air_model.proofs.AiredLemmas.{entries_long}
+use Rattle.air_model.proofs.AiredLemmas.{scheme_long}
 use Rattle.chunk_program.specs.Plans.{AreShort}
 use Rattle.air_model.proofs.ScriptLemmas.{script}
 use Rattle.air_model.proofs.TapeLemmas.{length_record, whole_read}
@@ -74,7 +74,7 @@ unfolding body_of entries_of
 entries_few values air H c None = omega arith
 entries_few values air H c (Some item) =
     let same = ap length (entries_aired air.scheme.policy item (read_value (values_of values) H (record { item = item; cycle = c })) (aired_entries air.scheme air.items H c item)) in
-    let long = entries_long air.scheme.policy air.items H c item in
+    let long = scheme_long air.scheme air.items H c item in
     omega arith
 
 -- A bucket of a history has a head, and an entry for each item at most.

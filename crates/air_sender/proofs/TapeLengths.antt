@@ -15,7 +15,7 @@ use Rattle.air_model.specs.Tapes.{record_bytes, tape_of}
 use Rattle.air_model.specs.Aired.{Air, aired_as, air_of, body_of, bucket_of, buckets_of, cycle_buckets, edition_at, history_tape, slots_at}
 use Rattle.air_model.specs.Decks.{Deck, disks_in, values_in}
 use Rattle.air_model.specs.Programs.{program}
-use Rattle.air_model.proofs.AiredLemmas.{entries_long}
+use Rattle.air_model.proofs.AiredLemmas.{scheme_long}
 use Rattle.air_model.proofs.EditionLemmas.{plain_slots}
 use Rattle.bucket_codec.proofs.EncodingLemmas.{length_spelling}
 use Rattle.bucket_codec.proofs.TapeReadLemmas.{record_size as record_long}
@@ -35,7 +35,7 @@ unfolding body_of entries_of
 body_size values air H v c None = omega (arith, mul-zero (entry_len v))
 body_size values air H v c (Some item) =
     ap (λ es. 28 + entry_len v * length es) (aired_entries_are air.scheme.policy item _ _)
-    ∙ ap (λ n. 28 + entry_len v * n) (entries_long air.scheme.policy air.items H c item)
+    ∙ ap (λ n. 28 + entry_len v * n) (scheme_long air.scheme air.items H c item)
 
 slot_size : (values : List ℕ) (air : Air) (H : List Event) (v c s : ℕ) → length (record_bytes (spelling (bucket_of values air H v c s))) ≡ record_size v air.items (get_or (slots_at air c) s None)
 unfolding bucket_of

@@ -1,5 +1,5 @@
 -- What a board airs: the bucket of each slot, and the last cycle of a history.
-use Rattle.std.specs.Prelude.{◌≡◌, ℕ, ◌<◌, List, [], ◌∷◌, ◌++◌, All, length, map, get_or, Option, Some, None}
+use Rattle.std.specs.Prelude.{◌≡◌, ℕ, cond, ◌<◌, List, [], ◌∷◌, ◌++◌, All, length, map, get_or, Option, Some, None}
 use Rattle.std.specs.List.{range_with_len}
 use Rattle.air_base.specs.declared.verdicts.Form.{Form}
 use Rattle.air_base.specs.declared.verdicts.Policy.{Policy}
@@ -7,7 +7,9 @@ use Rattle.air_base.specs.declared.verdicts.Policy.TheVariants.{FMatrix, Datacyc
 use Rattle.air_history.specs.declared.histories.Event.{Event}
 use Rattle.air_history.specs.declared.histories.Event.TheVariants.{Start}
 use Rattle.air_history.specs.Histories.{starts}
+use Rattle.air_history.specs.Columns.{Scheme, has_groups}
 use Rattle.air_history.specs.Boards.{Board, board_of}
+use Rattle.group_matrix.specs.GroupBoards.{GroupBoard, grouped, item_column}
 use Rattle.air_model.specs.Buckets.{Bucket, Body, Idle, capped_bucket, spelling}
 use Rattle.air_model.specs.Aired.{Air, aired_as, bucket_of, edition_at, slots_at}
 
@@ -16,6 +18,14 @@ abbrev pub entries_on : Policy → Board → ℕ → List ℕ
 entries_on FMatrix board item = get_or board.columns item []
 entries_on Datacycle board item = board.vector
 entries_on RMatrix board item = board.vector
+
+-- A board by groups as a board: each item has the column of its group. It has no write vector, since groups come under F-Matrix alone.
+abbrev pub spread : GroupBoard → Board
+spread b = record { cycle = b.cycle; values = b.values; columns = map (item_column b) (range_with_len 0 (length b.values)); vector = [] }
+
+-- What a scheme airs a cycle from: the board, or the board by groups if the scheme has groups.
+abbrev pub aired_board : Scheme → Board → Board
+aired_board scheme board = cond (has_groups scheme) (spread (grouped scheme.group board)) board
 
 -- The body of a slot with this item, or idle.
 unfoldable pub body_on : Policy → Board → Option ℕ → Body
@@ -52,9 +62,10 @@ last_cycle_buckets values air H = map (bucket_of values air H air.version (start
 abbrev pub last_bytes : List ℕ → Air → List Event → List (List ℕ)
 last_bytes values air G = map spelling (last_cycle_buckets values air (G ++ Start ∷ []))
 
--- The board is that of G and a start, from these values, and is aired in this form and edition with these slots.
+-- The board is what the air's scheme airs of the board of G and a start, from these values. It is aired in this form and edition with
+-- these slots.
 pub record IsLastBoard (values : List ℕ) (air : Air) (G : List Event) (form : Form) (e : ℕ) (program : List (Option ℕ)) (b : Board) : Type 0 where
-  pub board : b ≡ board_of values (G ++ Start ∷ [])
+  pub board : b ≡ aired_board air.scheme (board_of values (G ++ Start ∷ []))
   pub items : air.items ≡ length values
   pub policy : air.scheme.policy ≡ form.policy
   pub version : air.version ≡ form.version

@@ -1,29 +1,30 @@
-//! Airing one cycle of a program from a board.
+//! Airing one cycle of a program from a board, or from a board by groups.
 //!
 //! Each slot's bucket is written into the buffer and sent through the mast; no call takes memory. The buckets sent are the board's, and so those of
 //! the history of which the board is.
 
-ghost use Rattle.std.specs.Prelude.{◌≡◌, ◌⊎◌, ℕ, ◌<◌, ◌≤◌, ◌+◌, ◌*◌, List, [], ◌∷◌, length, take, IfErr, Ok, OnErr, OnOk};
+ghost use Rattle.std.specs.Prelude.{◌≡◌, ◌⊎◌, ℕ, ◌<◌, ◌≤◌, ◌+◌, ◌*◌, List, [], ◌∷◌, length, IfErr, OnOk};
+ghost use Rattle.air_base.specs.declared.verdicts.Policy.TheVariants.{FMatrix};
 ghost use Rattle.air_base.specs.declared.limits.TheConstants.{MOST_FULL_ITEMS, MOST_ITEMS, MOST_SLOTS};
 ghost use Rattle.air_history.specs.declared.histories.Event.{Event};
 ghost use Rattle.air_model.specs.Disks.{all_items};
 ghost use Rattle.air_model.specs.Programs.{program as slots_of};
-ghost use Rattle.air_model.specs.Buckets.{entry_len, most_count, reading, spelling};
+ghost use Rattle.air_model.specs.Buckets.{entry_len};
 ghost use Rattle.air_model.specs.Aired.{Air};
-ghost use Rattle.air_devices.specs.Counts.{TellsFailure};
 ghost use Rattle.air_devices.specs.Masts.{Changes, with_buckets};
 ghost use Rattle.chunk_program.specs.Editions.{HaveItems, planned_slots};
-ghost use Rattle.air_sender.specs.BoardBuckets.{EntriesBelow, IsLastBoard, board_bytes, bucket_on, last_bytes};
+ghost use Rattle.air_sender.specs.BoardBuckets.{EntriesBelow, IsLastBoard, board_bytes, last_bytes, spread};
 ghost use Rattle.air_sender.specs.AirFaults.{IsAirAnswer, SendsUpToFault};
 ghost use Rattle.air_sender.specs.TapeSizes.{cycle_size, tape_size};
 
-use crate::buckets::slot_bucket;
+use crate::slots::air_source;
 use air_base::Form;
-use air_devices::{Failed, Mast};
+use air_devices::Mast;
+use bucket_codec::entry_size;
 use bucket_codec::offsets::{ENTRY_BYTES, HEAD_BYTES, LENGTH_BYTES};
-use bucket_codec::{encode, entry_size};
 use chunk_program::{Plans, Program};
 use control_matrix::Board;
+use group_matrix::GroupBoard;
 
 /// The bytes of a slot's record before its entries.
 const RECORD_HEAD: u64 = (LENGTH_BYTES + HEAD_BYTES) as u64;
@@ -61,64 +62,34 @@ pub fn air_cycle<M: Mast>(
     ensures port { (M.state mast.new).port ≡ (M.state mast.old).port }
     ensures buffer { length buf.new ≡ length buf.old }
 {
-    program.shows_well_made();
-    for slot in 0..program.slots() {
-        if air_slot(program, board, form, slot, mast, buf).is_err() {
-            return Err(AirFault::Mast { slot });
-        }
-    }
-    Ok(())
+    air_source(program, board, form, mast, buf)
 }
 
-/// Sends the bucket of one slot.
-fn air_slot<M: Mast>(
+/// Sends the bucket of each slot in order for the cycle of a board by groups, as `air_cycle` does for that of a board. `GroupBoard::fill` tells of
+/// which board it is, and by `groups_below_law` of `board_laws` its entries are below its cycle, if that board's last event was a start.
+pub fn air_group_cycle<M: Mast>(
     program: &Program,
-    board: &Board,
+    groups: &GroupBoard,
     form: Form,
-    slot: u32,
     mast: &mut M,
     buf: &mut [u8],
-) -> Result<(), Failed>
-    requires slot { slot < length (slots_of program.now.disks) }
-    requires short { slot < MOST_SLOTS }
+) -> Result<(), AirFault>
+    requires started { 1 ≤ (spread groups.now).cycle }
+    requires below { EntriesBelow (spread groups.now) }
+    requires columns { form.policy ≡ FMatrix }
+    requires items { length (all_items program.now.disks) ≡ length (spread groups.now).values }
     requires version { (form.version ≡ 1) ⊎ (form.version ≡ 2) }
-    requires few { length board.now.values ≤ most_count form.version }
-    requires started { 1 ≤ board.now.cycle }
-    requires below { EntriesBelow board.now }
-    requires items { length (all_items program.now.disks) ≡ length board.now.values }
-    requires room { HEAD_BYTES + entry_len form.version * length board.now.values ≤ length buf.old }
-    ensures sent { OnOk result (Changes (with_buckets (spelling (bucket_on form program.now.edition (slots_of program.now.disks) board.now slot) ∷ [])) (M.state mast.old).told (M.state mast.new).told) }
-    ensures refused { OnErr result ((M.state mast.new).told ≡ (M.state mast.old).told) }
+    requires few { form.version ≡ 1 → length (spread groups.now).values ≤ MOST_FULL_ITEMS }
+    requires room { HEAD_BYTES + entry_len form.version * length (spread groups.now).values ≤ length buf.old }
+    ensures aired { OnOk result (Changes (with_buckets (board_bytes form program.now.edition (slots_of program.now.disks) (spread groups.now))) (M.state mast.old).told (M.state mast.new).told) }
+    ensures history { (values : List ℕ) (air : Air) (G : List Event) → IsLastBoard values air G form program.now.edition (slots_of program.now.disks) (spread groups.now) →
+        SendsUpToFault (last_bytes values air G) result (M.state mast.old).told (M.state mast.new).told }
+    ensures calm { OnOk result ((M.state mast.new).faults ≡ (M.state mast.old).faults) }
+    ensures fault { IfErr result (IsAirAnswer M.state (board_bytes form program.now.edition (slots_of program.now.disks) (spread groups.now)) mast.old mast.new) }
     ensures port { (M.state mast.new).port ≡ (M.state mast.old).port }
-    ensures cause { TellsFailure (M.state mast.old).faults (M.state mast.new).faults result }
-{
-    let len = encode_slot(program, board, form, slot, buf);
-    mast.send(&buf[..len])
-}
-
-/// Writes the bytes of a slot's bucket to the beginning of the buffer, and returns their number. They decode to that bucket.
-pub fn encode_slot(program: &Program, board: &Board, form: Form, slot: u32, buf: &mut [u8]) -> usize
-    requires slot { slot < length (slots_of program.now.disks) }
-    requires short { slot < MOST_SLOTS }
-    requires version { (form.version ≡ 1) ⊎ (form.version ≡ 2) }
-    requires few { length board.now.values ≤ most_count form.version }
-    requires started { 1 ≤ board.now.cycle }
-    requires below { EntriesBelow board.now }
-    requires items { length (all_items program.now.disks) ≡ length board.now.values }
-    requires room { HEAD_BYTES + entry_len form.version * length board.now.values ≤ length buf.old }
-    ensures bytes { take result buf.new ≡ spelling (bucket_on form program.now.edition (slots_of program.now.disks) board.now slot) }
-    ensures decodes { reading (take result buf.new) ≡ Ok (bucket_on form program.now.edition (slots_of program.now.disks) board.now slot) }
-    ensures sized { result ≤ HEAD_BYTES + entry_len form.version * length board.now.values }
     ensures buffer { length buf.new ≡ length buf.old }
 {
-    let bucket = slot_bucket(
-        board,
-        form,
-        program.edition(),
-        slot,
-        program.slot_item(slot),
-    );
-    encode(&bucket, buf)
+    air_source(program, groups, form, mast, buf)
 }
 
 /// The exact length in bytes of the tape of the first `cycles` cycles in this form, if each edition has n items.

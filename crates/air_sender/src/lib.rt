@@ -10,10 +10,14 @@ pub mod board_laws;
 mod buckets;
 mod forms;
 mod script_tapes;
+mod slots;
+mod sources;
 pub mod tape_mast;
 
-pub use airing::{AirFault, air_cycle, cycle_len, encode_slot, tape_bytes};
-pub use board_laws::{below_law, own_cycle_law};
+pub use airing::{AirFault, air_cycle, air_group_cycle, cycle_len, tape_bytes};
+pub use board_laws::{below_law, groups_below_law, own_cycle_law};
 pub use forms::{bucket_room, own_form};
 pub use script_tapes::tape_len;
+pub use slots::{air_source, encode_source};
+pub use sources::Source;
 pub use tape_mast::TapeMast;

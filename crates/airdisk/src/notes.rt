@@ -104,6 +104,19 @@ fn size_note<R: Files>(
     }
 }
 
+/// How long a deck's tape would be; that of `beam` is an indexed one.
+fn length_note(alloc: Global, words: &[String], bytes: u64) -> Result<Option<String>, NoMemory> {
+    let deck = ShownText::whole(word(words, 1));
+    let tape = if word(words, 0) == "beam" {
+        "indexed tape"
+    } else {
+        "tape"
+    };
+    Ok(Some(format!(in alloc;
+        "{deck}: its {tape} would have {bytes} bytes, and a tape may have {MOST_TAPE_BYTES}"
+    )?))
+}
+
 /// A note that the deck of a command with readers gives no verdict, or `None`; also `None` if the deck is large.
 fn deck_silence_note<R: Files + Print + Drop>(
     rt: &R,
@@ -153,7 +166,6 @@ fn text_of<R: Files + Print + Drop>(
     air: Option<&NetFailure>,
     status: Status,
 ) -> Result<Option<String>, NoMemory> {
-    let deck = ShownText::whole(word(words, 1));
     match status {
         Status::Ok => deck_silence_note(rt, alloc, words, shelf),
         Status::Words => Ok(Some(words_note(alloc, HELP, words)?)),
@@ -167,9 +179,7 @@ fn text_of<R: Files + Print + Drop>(
         Status::AirFault { at } => air_failure_note(alloc, air, at),
         Status::TapeCut { at } => cut_note(rt, alloc, shelf, tape_word(words), at),
         Status::TooLarge { limit } => size_note(rt, alloc, words, limit),
-        Status::TooLong { bytes } => Ok(Some(format!(in alloc;
-            "{deck}: its tape would have {bytes} bytes, and a tape may have {MOST_TAPE_BYTES}"
-        )?)),
+        Status::TooLong { bytes } => length_note(alloc, words, bytes),
         Status::PlanTooLong { slots } => plan_note(rt, alloc, words, shelf, slots),
         _ => audit_note(rt, alloc, words, shelf, status),
     }

@@ -6,7 +6,9 @@
 
 mod boards;
 mod cores;
+mod draws;
 mod events;
+mod groups;
 mod scans;
 mod updates;
 
@@ -42,6 +44,7 @@ impl HistoryPlayer {
             b"table" => scans::tell_table(alloc, &history, &self.values, parts, came),
             b"scan" => scans::tell_scan(alloc, &history, &self.values, parts, came),
             b"board" => boards::tell_board(alloc, &history, &self.values, parts, came),
+            b"groups" => boards::tell_board_groups(alloc, &history, &self.values, parts, came),
             _ => cores::tell_core(alloc, &history, &self.values, parts, came),
         }
     }
@@ -57,6 +60,7 @@ impl Player for HistoryPlayer {
     ) -> Result<(), NoMemory> {
         match word {
             b"update" => updates::tell_update(alloc, parts, came)?,
+            b"drawn" => draws::tell_drawn(alloc, parts, came)?,
             b"values" => {
                 self.values = parts.numbers(alloc)?;
                 self.events = Vec::new(alloc);
@@ -66,7 +70,7 @@ impl Player for HistoryPlayer {
                 Ok(event) => self.events.push(event)?,
                 Err(fault) => updates::tell_fault(alloc, &fault, came)?,
             },
-            b"history" | b"descents" | b"table" | b"scan" | b"board" | b"core" => {
+            b"history" | b"descents" | b"table" | b"scan" | b"board" | b"groups" | b"core" => {
                 self.ask(alloc, word, parts, came)?;
             }
             _ => parts.refuse(BadCase::NoSuchWord),

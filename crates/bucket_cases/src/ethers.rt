@@ -1,6 +1,6 @@
 //! What a reader hears of the ether, and the words that it draws.
 //!
-//! `ether` takes the seed, the reader's number, how many of a hundred are lost, heard again and late, and the number of pushes. `words` takes a seed
+//! `ether` takes the seed, the reader's number, how many of a hundred are lost, heard again and delayed, and the number of pushes. `words` takes a seed
 //! and a stream.
 
 ghost use Rattle.std.specs.Prelude.{◌≡◌, OnOk};

@@ -1,6 +1,6 @@
 //! A bucket to be aired, and its bytes.
 //!
-//! The head is written from front to back, then the entries, each byte once. What comes after the bucket in `out` isn't
+//! The head is written from its beginning to its end, then the entries, each byte once. What comes after the bucket in `out` isn't
 //! changed. The sender and the station air what is written here.
 
 ghost use Rattle.std.specs.Prelude.{◌≡◌, ◌≤◌, ◌<◌, ◌+◌, ◌*◌, ◌++◌, All, drop, length, take, Ok};
@@ -133,7 +133,7 @@ fn put_eight(out: &mut [u8], at: usize, n: u64)
     BigEndian::write_u64(&mut out[at..], n);
 }
 
-/// Writes the head to the front.
+/// Writes the head to the beginning.
 fn put_head(out: &mut [u8], head: &Head)
     requires { HEAD_BYTES ≤ length out.old }
     ensures { out.new ≡ head_bytes head.now ++ drop HEAD_BYTES out.old }
@@ -192,7 +192,7 @@ pub fn size_of(bucket: &Bucket<'_>) -> usize
     HEAD_BYTES + entry_size(bucket.version) * entries(bucket).len()
 }
 
-/// Writes a bucket's bytes to the front of `out` and gives their number. From version 2 on an entry that is too old for an age
+/// Writes a bucket's bytes to the beginning of `out` and gives their number. From version 2 on an entry that is too old for an age
 /// is written as 0. The caller has to know that the bucket with such entries is in range: `range_law` of `air_model` says it of
 /// every bucket of a history that can be aired. `size_of` gives the room that is needed.
 pub fn encode(bucket: &Bucket<'_>, out: &mut [u8]) -> usize

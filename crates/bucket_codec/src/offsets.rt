@@ -1,4 +1,4 @@
-//! Where the parts of a bucket's head are, and how many bytes the head, an entry, an age and the length of a record have.
+//! Where the numbers of a bucket's head are, and how many bytes the head, an entry, an age and the length of a record have.
 
 /// The version's byte.
 pub const VERSION: usize = 2;

@@ -32,7 +32,7 @@ impl fmt::Display for TapeFault {
 
 impl Error for TapeFault {}
 
-/// Writes the length and the bytes of a record to the front of `out` and gives the number of bytes written.
+/// Writes the length and the bytes of a record to the beginning of `out` and gives the number of bytes written.
 pub fn tape_record(bytes: &[u8], out: &mut [u8]) -> usize
     requires short { length bytes.now < 2 ^ 32 }
     requires room { LENGTH_BYTES + length bytes.now ≤ length out.old }
@@ -80,7 +80,7 @@ impl<'a> Model for TapeReader<'a> {
 }
 
 impl<'a> TapeReader<'a> {
-    /// A reader at the front of a tape.
+    /// A reader at the beginning of a tape.
     pub fn new(bytes: &'a [u8]) -> TapeReader<'a>
         ensures { result ≡ tape_read bytes.now }
     {

@@ -1,4 +1,4 @@
-//! A bucket in a datagram: read without a copy, or refused by the first fault that applies.
+//! A bucket in a datagram: read in place, or refused by the first fault that applies.
 //!
 //! Contracts see a view as the bucket that its bytes spell; views exist only for such bytes. `decode` reads each byte at most
 //! once; the readers read theirs again. The receiver uses this file.

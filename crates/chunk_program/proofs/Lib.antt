@@ -9,3 +9,4 @@ pub mod ChunkLemmas
 pub mod HomeLemmas
 pub mod ProgramLemmas
 mod LengthExamples
+mod EditionExamples

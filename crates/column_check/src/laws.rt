@@ -1,11 +1,11 @@
 //! The laws of held reads, each the contract of a function that does nothing.
 
-ghost use Rattle.std.specs.Prelude.{◌≡◌, ◌≢◌, false, List, All, MatchOption};
+ghost use Rattle.std.specs.Prelude.{◌≡◌, ◌≢◌, ℕ, false, List, All, MatchOption};
 ghost use Rattle.air_base.specs.declared.verdicts.Policy.TheVariants.{FMatrix};
 ghost use Rattle.air_history.specs.declared.histories.Event.{Event};
 ghost use Rattle.air_history.specs.Clashes.{HeardRead, clash_by_entries};
 ghost use Rattle.air_history.specs.ClashLaws.{HasAiredEntries, HasCappedEntries};
-ghost use Rattle.air_history.specs.Columns.{scheme_of};
+ghost use Rattle.air_history.specs.Columns.{group_scheme};
 ghost use Rattle.air_history.specs.HeldReads.{HeldReads, IsNew};
 ghost use Rattle.column_check.specs.Searches.{disagree, IsLeastClash};
 
@@ -15,11 +15,11 @@ pub fn names_least_law()
         MatchOption (clash_by_entries FMatrix R x) (All (λ r. disagree x r ≡ false) R) (IsLeastClash R x) }
 {}
 
-/// A read is a new one, so it may be tried, if its item isn't held and it has the column of a history at its cycle, in full or
-/// as ages give it.
+/// A read is a new one, so it may be tried, if its item isn't held and it has the column of a history at its cycle, or its group
+/// column by groups of g, in full or as ages give it.
 pub fn aired_is_new_law()
-    ensures capped { (held : HeldReads) (H : List Event) (x : HeardRead) →
-        HasCappedEntries (scheme_of FMatrix) held.n H x → All (λ r. r.item ≢ x.item) held.reads → IsNew held x }
-    ensures full { (held : HeldReads) (H : List Event) (x : HeardRead) →
-        HasAiredEntries (scheme_of FMatrix) held.n H x → All (λ r. r.item ≢ x.item) held.reads → IsNew held x }
+    ensures capped { (g : ℕ) (held : HeldReads) (H : List Event) (x : HeardRead) →
+        HasCappedEntries (group_scheme g) held.n H x → All (λ r. r.item ≢ x.item) held.reads → IsNew held x }
+    ensures full { (g : ℕ) (held : HeldReads) (H : List Event) (x : HeardRead) →
+        HasAiredEntries (group_scheme g) held.n H x → All (λ r. r.item ≢ x.item) held.reads → IsNew held x }
 {}

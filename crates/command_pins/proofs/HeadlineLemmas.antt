@@ -24,7 +24,7 @@ use Rattle.air_model.specs.Rows.{rows_text}
 use Rattle.air_model.specs.Sessions.{abort, accept_if_whole, copy_of, count_copied, count_dozed, count_foreign, count_late, count_opened, count_refused, decide, drop_copy, end, end_aged, end_query, hear, hear_all, hear_read, hold, is_unusable, judge_read, line_of, next_attempt, next_query, offer, open_bucket, query_of, session, settle, turn, turn_with, wanted, with_line}
 use Rattle.air_model.specs.Tapes.{TapeRead, read_from, tape_read}
 use Rattle.deck_runs.specs.Casts.{all_sent}
-use Rattle.deck_runs.specs.DeckBytes.{deck_bytes}
+use Rattle.air_sender.specs.AiredBytes.{aired_bytes}
 use Rattle.item_catalog.specs.Grammar.{Spells}
 use Rattle.item_catalog.proofs.GrammarLemmas.{one_deck}
 use Rattle.live_replay.specs.Findings.{places_of}
@@ -54,10 +54,10 @@ run_left old new empty h = (
 )
 
 pub cast_left : (old new : MemShelf) (mast mast_now : MemMast) → (told_by old).printed ≡ Some [] → CastStands (codes "d") 4000 (memory_mast_state mast) (memory_mast_state mast_now) (shelved_of old) (shelved_of new)
-    → (d : Deck) × (report : Report) × Spells (deck_file old) d × IsWhole d report.history × (told_by_mast mast_now ≡ all_sent (deck_bytes d report.history)) × ((told_by new).printed ≡ Some (report_text report))
+    → (d : Deck) × (report : Report) × Spells (deck_file old) d × IsWhole d report.history × (told_by_mast mast_now ≡ all_sent (aired_bytes d report.history)) × ((told_by new).printed ≡ Some (report_text report))
 cast_left old new mast mast_now empty h =
-    let sent : Some (told_by_mast mast_now) ≡ Some (all_sent (deck_bytes h.d h.report.history)) = h.sent in
-    let all : told_by_mast mast_now ≡ all_sent (deck_bytes h.d h.report.history) = cc in (
+    let sent : Some (told_by_mast mast_now) ≡ Some (all_sent (aired_bytes h.d h.report.history)) = h.sent in
+    let all : told_by_mast mast_now ≡ all_sent (aired_bytes h.d h.report.history) = cc in (
       h.d,
       h.report,
       h.spelled.1,

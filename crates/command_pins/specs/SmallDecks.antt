@@ -13,7 +13,7 @@ short_deck = record {
   readers = record { room = 0; age = 0; tries = 1 } ∷ [];
   queries = ((0 ∷ 1 ∷ []) ∷ []) ∷ [];
   script = None ∷ [];
-  settings = record { policy = FMatrix; version = 1; cycles = 10; seed = 0; loss = 0; again = 0; late = 0; monitors = 0; hears = 1000000 };
+  settings = record { policy = FMatrix; version = 1; group = 0; cycles = 10; seed = 0; loss = 0; again = 0; late = 0; monitors = 0; hears = 1000000 };
 }
 
 -- 91 items of one rate on three disks of the frequencies 63, 56 and 44: so there are 5,544 minor cycles, and the disks have 88, 99 and 126 chunks. A

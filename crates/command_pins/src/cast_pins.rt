@@ -17,6 +17,7 @@ use std::thread::Threads;
 /// A cast goes to its port, and has sent the end if and only if it was done. One that answers that the mast failed has the number of buckets sent,
 /// and the mast counted a failure. It also refuses a cast without the end, an end before the buckets, and a failed end that is answered as nothing
 /// sent.
+/// Promise: what goes over the air
 pub fn cast_to_another_port<R: Threads + Wait + Sync, G: Gate + Sync>(
     rt: &R,
     alloc: Global,
@@ -39,6 +40,8 @@ pub fn cast_to_another_port<R: Threads + Wait + Sync, G: Gate + Sync>(
 /// Readers that hear two datagrams on a port leave the third, and no call of the ear failed. Or the ear failed and counted a failure, and the fault
 /// has the number of datagrams heard. It also refuses one datagram more, an ear fault without a failure, a failed datagram that is counted too, and a
 /// failed ear that is taken for the end.
+/// Promise: every answer is a named one
+/// Promise: what goes over the air
 pub fn tuned_to_another_port(
     alloc: Global,
     planned: &Planned,

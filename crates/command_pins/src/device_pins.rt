@@ -9,6 +9,7 @@ use std::alloc::Global;
 use std::rt::Files;
 
 /// If a file is longer than the limit, one byte more than the limit is read, and the rest is left. The file isn't read as if it ended at the limit.
+/// Promise: a refusal leaves its objects
 pub fn read_past_the_limit_goes_on(
     alloc: Global,
     shelf: &mut MemShelf,
@@ -23,6 +24,7 @@ pub fn read_past_the_limit_goes_on(
 
 /// A file that has exactly as many bytes as the limit is read whole, by any shelf that tells it, and not refused as too large. It also refuses that a
 /// read of fewer bytes than asked for is taken for the end.
+/// Promise: every answer is a named one
 pub fn file_at_the_limit_refused<S: Shelf>(
     alloc: Global,
     shelf: &mut S,
@@ -36,6 +38,7 @@ pub fn file_at_the_limit_refused<S: Shelf>(
 }
 
 /// An empty file is within a limit of no byte.
+/// Promise: every answer is a named one
 pub fn empty_file_at_the_limit_refused(
     alloc: Global,
     shelf: &mut MemShelf,
@@ -48,6 +51,7 @@ pub fn empty_file_at_the_limit_refused(
 }
 
 /// A file is refused as unread only if a failure was counted.
+/// Promise: every answer is a named one
 pub fn read_fault_without_a_fault(
     alloc: Global,
     shelf: &mut MemShelf,
@@ -60,6 +64,7 @@ pub fn read_fault_without_a_fault(
 }
 
 /// After a print failed, the failure that is kept is of a print, regardless of the one kept before.
+/// Promise: a refusal leaves its objects
 pub fn first_failure_kept_for_the_last<R: Files + Print + Drop>(
     shelf: &mut FileShelf<R>,
     bytes: &[u8],

@@ -10,6 +10,7 @@ use std::thread::Threads;
 
 /// The drill of seed 0 and size 1 has this line: 18 items, ten commits, four cycles of 28 slots and a tape of 11,200 bytes. Eight queries are
 /// accepted, 21 buckets are opened, and 863 are slept through.
+/// Promise: script, drill and plan print their texts
 #[tactic(auto, using(crate::proofs::DrillLemmas::line_of_drill))]
 pub fn line_of_another_drill<T: Threads + Sync>(
     threads: &T,

@@ -17,6 +17,9 @@ use std::alloc::Global;
 
 /// The bytes are those of the file of this name, and a read fault is answered only if a failure was counted (always a read fault). A file that has
 /// exactly as many bytes as the limit isn't too large.
+/// Promise: every answer is a named one
+/// Promise: what each status leaves outside
+/// Promise: output is a function of input
 pub fn another_file_is_read(
     alloc: Global,
     shelf: &mut MemShelf,
@@ -32,6 +35,7 @@ pub fn another_file_is_read(
 }
 
 /// A file that is too large is refused with the limit.
+/// Promise: every answer is a named one
 pub fn another_limit_told(
     alloc: Global,
     shelf: &mut MemShelf,
@@ -43,6 +47,7 @@ pub fn another_limit_told(
 }
 
 /// A deck that is too large is refused with the limit of decks.
+/// Promise: every answer is a named one
 pub fn limit_of_another_kind_told(
     alloc: Global,
     shelf: &mut MemShelf,
@@ -55,6 +60,8 @@ pub fn limit_of_another_kind_told(
 
 /// A deck is answered only if no read failed, and so is each refusal except for that of a read: out of memory, a file that is too large, and a fault
 /// of the deck. So none of them is the result of a second reading after one that failed.
+/// Promise: every answer is a named one
+/// Promise: what each status leaves outside
 pub fn reads_again_after_a_read_fault(
     alloc: Global,
     shelf: &mut MemShelf,
@@ -70,6 +77,7 @@ pub fn reads_again_after_a_read_fault(
 }
 
 /// A file that spells a deck isn't refused as a faulty one.
+/// Promise: every answer is a named one
 pub fn always_a_deck_fault(alloc: Global, shelf: &mut MemShelf, name: &str) -> Result<Deck, Status>
     requires { (text : List ℕ) × (deck : PlainDeck) × ((told_by shelf.old).file name.now ≡ Some text) × Spells text deck }
     ensures { (row kind : ℕ) → result ≢ Err (Status.Deck row kind) }
@@ -79,6 +87,8 @@ pub fn always_a_deck_fault(alloc: Global, shelf: &mut MemShelf, name: &str) -> R
 }
 
 /// The fault of an empty deck is at row 1, after its last record.
+/// Promise: every answer is a named one
+/// Promise: texts are exact
 pub fn row_of_another_record(
     alloc: Global,
     shelf: &mut MemShelf,
@@ -91,6 +101,7 @@ pub fn row_of_another_record(
 }
 
 /// A deck is refused for a program only if one has more slots than a program may have.
+/// Promise: every answer is a named one
 pub fn short_program_told_as_too_long(
     alloc: Global,
     shelf: &mut MemShelf,
@@ -102,6 +113,7 @@ pub fn short_program_told_as_too_long(
 }
 
 /// A deck whose first program is too long is refused with the slots of that one, regardless of its replans.
+/// Promise: every answer is a named one
 pub fn too_long_by_another_number(alloc: Global, deck: Deck) -> Result<Planned, Status>
     requires { length (program (disks_in deck 0)) ≡ 20_160 }
     ensures { (slots : ℕ) → result ≡ Err (Status.PlanTooLong slots) → slots ≡ 20_160 }

@@ -11,7 +11,7 @@ ghost use Rattle.air_devices.specs.Masts.{nothing_sent};
 ghost use Rattle.air_devices.specs.Memory.{file_bytes, file_named, told_by};
 ghost use Rattle.air_devices.specs.MemoryMasts.{told_by_mast as sent_by};
 ghost use Rattle.deck_runs.specs.Casts.{all_sent};
-ghost use Rattle.deck_runs.specs.DeckBytes.{deck_bytes};
+ghost use Rattle.air_sender.specs.AiredBytes.{aired_bytes};
 ghost use Rattle.item_catalog.specs.Grammar.{Spells};
 ghost use Rattle.live_replay.specs.Findings.{places_of};
 ghost use Rattle.command_pins.specs.SmallDecks.{short_deck};
@@ -25,6 +25,8 @@ use std::thread::Threads;
 
 /// `run d t` that is done has written the tape of one whole history of the deck that the file spells, and printed a report of that history, in which
 /// the reads of each verdict are consistent. It also refuses a tape of another history than the printed one.
+/// Promise: the headline
+/// Promise: accepted reads are consistent
 pub fn inconsistent_reads_printed<R: Threads + Wait + Sync, G: Gate + Sync>(
     rt: &R,
     alloc: Global,
@@ -47,6 +49,8 @@ pub fn inconsistent_reads_printed<R: Threads + Wait + Sync, G: Gate + Sync>(
 }
 
 /// `cast d 4000` that is done has sent exactly the buckets of the history that it printed, and then the end.
+/// Promise: the headline
+/// Promise: what goes over the air
 pub fn buckets_of_another_history<R: Threads + Wait + Sync, G: Gate + Sync>(
     rt: &R,
     alloc: Global,
@@ -62,13 +66,15 @@ pub fn buckets_of_another_history<R: Threads + Wait + Sync, G: Gate + Sync>(
     requires untuned { ear.old.port ≡ None }
     requires printed { (told_by shelf.old).printed ≡ Some [] }
     ensures { result ≡ Status.Ok → (d : Deck) × (report : Report) × Spells (file_bytes (file_named (codes "d") shelf.old.files.items)) d × IsWhole d report.history
-        × (sent_by mast.new ≡ all_sent (deck_bytes d report.history)) × ((told_by shelf.new).printed ≡ Some (report_text report)) }
+        × (sent_by mast.new ≡ all_sent (aired_bytes d report.history)) × ((told_by shelf.new).printed ≡ Some (report_text report)) }
 {
     air_main(rt, alloc, words, shelf, mast, ear, gate)
 }
 
 /// `tune d t` over an empty tape, where d spells a deck of two items and one reader who asks for both, has printed that the query is unfinished, and
 /// counts of 0.
+/// Promise: the headline
+/// Promise: tune prints its session
 pub fn accepted_without_a_read<R: Threads + Wait + Sync, G: Gate + Sync>(
     rt: &R,
     alloc: Global,
@@ -91,6 +97,8 @@ pub fn accepted_without_a_read<R: Threads + Wait + Sync, G: Gate + Sync>(
 }
 
 /// `listen d 4000` with two datagrams that are no buckets has refused both, and has printed that the query is unfinished.
+/// Promise: the headline
+/// Promise: what goes over the air
 pub fn noise_taken_for_buckets<R: Threads + Wait + Sync, G: Gate + Sync>(
     rt: &R,
     alloc: Global,

@@ -26,6 +26,7 @@ use std::thread::Threads;
 
 /// `plan d` that is done, or that is refused for its deck, has read the deck to its end; if it is done, no call failed. Regardless of its status, it
 /// leaves mast and ear as they were. It also refuses a mast that another command than `cast` touches.
+/// Promise: what each status leaves outside
 pub fn deck_left_to_read<R: Threads + Wait + Sync, G: Gate + Sync>(
     rt: &R,
     alloc: Global,
@@ -49,6 +50,7 @@ pub fn deck_left_to_read<R: Threads + Wait + Sync, G: Gate + Sync>(
 }
 
 /// `plan d` that is done has printed the plan of the deck that the file spells, disk by disk.
+/// Promise: script, drill and plan print their texts
 pub fn disks_reversed<R: Threads + Wait + Sync, G: Gate + Sync>(
     rt: &R,
     alloc: Global,
@@ -69,6 +71,7 @@ pub fn disks_reversed<R: Threads + Wait + Sync, G: Gate + Sync>(
 }
 
 /// `split d` that is done has printed the best split of the deck that the file spells, and after it the deck's own sizes.
+/// Promise: the split is the least
 pub fn given_sizes_printed_first<R: Threads + Wait + Sync, G: Gate + Sync>(
     rt: &R,
     alloc: Global,
@@ -91,6 +94,7 @@ pub fn given_sizes_printed_first<R: Threads + Wait + Sync, G: Gate + Sync>(
 
 /// The deck's own program has 22,176 slots, and each split has 16,632 or more: `split d` is never done, and if it is refused for its splits, that
 /// number is answered and printed.
+/// Promise: the split is the least
 pub fn own_slots_printed<R: Threads + Wait + Sync, G: Gate + Sync>(
     rt: &R,
     alloc: Global,
@@ -117,6 +121,9 @@ pub fn own_slots_printed<R: Threads + Wait + Sync, G: Gate + Sync>(
 
 /// `script d t` that is done has written the tape of the deck's script, including its last piece, and one that is refused for its tape would have had
 /// more bytes than a tape may have. It also refuses that the tape's word is ignored, and that the longest tape is refused.
+/// Promise: every answer is a named one
+/// Promise: what each status leaves outside
+/// Promise: script, drill and plan print their texts
 pub fn last_piece_left_out<R: Threads + Wait + Sync, G: Gate + Sync>(
     rt: &R,
     alloc: Global,
@@ -137,6 +144,7 @@ pub fn last_piece_left_out<R: Threads + Wait + Sync, G: Gate + Sync>(
 }
 
 /// `drill 3 2` that is done has printed the line of seed 3 and size 2.
+/// Promise: script, drill and plan print their texts
 pub fn drill_always_of_size_1<R: Threads + Wait + Sync, G: Gate + Sync>(
     rt: &R,
     alloc: Global,
@@ -157,6 +165,7 @@ pub fn drill_always_of_size_1<R: Threads + Wait + Sync, G: Gate + Sync>(
 }
 
 /// `audit d r` that ends with status 0 has printed findings of which none differs.
+/// Promise: the command prints the audit
 pub fn difference_told_as_none<R: Threads + Wait + Sync, G: Gate + Sync>(
     rt: &R,
     alloc: Global,
@@ -178,6 +187,8 @@ pub fn difference_told_as_none<R: Threads + Wait + Sync, G: Gate + Sync>(
 
 /// `run d t` that is refused for its deck leaves its output as it was. Regardless of its status it reads nothing of the file t and writes nothing to
 /// the output d. It also refuses that deck and tape change places.
+/// Promise: what each status leaves outside
+/// Promise: run prints what it aired
 pub fn output_begun_before_the_deck_is_read<R: Threads + Wait + Sync, G: Gate + Sync>(
     rt: &R,
     alloc: Global,
@@ -199,6 +210,7 @@ pub fn output_begun_before_the_deck_is_read<R: Threads + Wait + Sync, G: Gate + 
 }
 
 /// `cast d 4000` answers that the mast failed only if it counted a failure. If it is refused for its deck, the mast wasn't aimed.
+/// Promise: every answer is a named one
 pub fn always_an_air_fault<R: Threads + Wait + Sync, G: Gate + Sync>(
     rt: &R,
     alloc: Global,
@@ -220,6 +232,7 @@ pub fn always_an_air_fault<R: Threads + Wait + Sync, G: Gate + Sync>(
 }
 
 /// `run d t` is refused by `air_quiet` as no valid command, or `air_quiet` is out of memory.
+/// Promise: every answer is a named one
 pub fn waiting_command_done_quietly<T: Threads + Sync>(
     threads: &T,
     alloc: Global,

@@ -21,6 +21,7 @@ use std::thread::Threads;
 
 /// Report and tape are those of one whole history, with a look of each of the two monitors. A run is never refused for what was read or is to be
 /// written (always a write fault). It also refuses a report of another history, another tape or none, and a report without its looks or its verdicts.
+/// Promise: run prints what it aired
 pub fn always_a_read_fault<R: Threads + Wait + Sync, G: Gate + Sync>(
     rt: &R,
     alloc: Global,
@@ -39,6 +40,8 @@ pub fn always_a_read_fault<R: Threads + Wait + Sync, G: Gate + Sync>(
 }
 
 /// A tape is too long only if it has more bytes than a tape may have.
+/// Promise: every answer is a named one
+/// Promise: run prints what it aired
 pub fn longest_run_refused(planned: &Planned) -> Option<u64>
     ensures { IfSome result (λ bytes. 1_073_741_824 < bytes) }
 {
@@ -46,6 +49,7 @@ pub fn longest_run_refused(planned: &Planned) -> Option<u64>
 }
 
 /// A tape that is too long has the bytes of each of the deck's three cycles, by the program in force in it.
+/// Promise: run prints what it aired
 pub fn monitors_for_cycles(planned: &Planned) -> Option<u64>
     requires { planned.now.settings.cycles ≡ 3 }
     ensures { IfSome result (λ bytes. bytes ≡ tape_size planned.now.settings.version (length planned.now.items) (slots_at (air_of planned.now)) 3) }

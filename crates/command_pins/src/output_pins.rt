@@ -14,6 +14,9 @@ use std::alloc::Global;
 /// If something differs, the status says so, the named output holds exactly the tape, and the text was printed after what was printed before. No
 /// other output changes. It also refuses that an output that was begun keeps what it held, a tape that is dropped or written twice, that an output is
 /// written without a name, and that the two statuses are exchanged.
+/// Promise: what each status leaves outside
+/// Promise: script, drill and plan print their texts
+/// Promise: the command prints the audit
 pub fn begun_output_kept(
     shelf: &mut MemShelf,
     output: Option<&str>,
@@ -31,6 +34,7 @@ pub fn begun_output_kept(
 }
 
 /// If no output is named, writing fails only if a print failed.
+/// Promise: every answer is a named one
 pub fn always_a_write_fault(
     shelf: &mut MemShelf,
     output: Option<&str>,
@@ -45,6 +49,7 @@ pub fn always_a_write_fault(
 }
 
 /// A refusal leaves each output as it was.
+/// Promise: what each status leaves outside
 pub fn output_created_on_a_refusal(alloc: Global, shelf: &mut MemShelf) -> Status
     requires { (told_by shelf.old).output (codes "tape") ≡ Some (7 ∷ []) }
     ensures { (told_by shelf.new).output (codes "tape") ≡ Some (7 ∷ []) }
@@ -53,6 +58,7 @@ pub fn output_created_on_a_refusal(alloc: Global, shelf: &mut MemShelf) -> Statu
 }
 
 /// If a refusal's line isn't printed, or not whole, its status stays: no fault of writing is answered in its place.
+/// Promise: a refusal leaves its objects
 pub fn unprinted_line_told_as_a_write_fault(alloc: Global, shelf: &mut MemShelf) -> Status
     ensures { result ≢ Status.WriteFault }
 {

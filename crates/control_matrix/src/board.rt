@@ -2,7 +2,7 @@
 //!
 //! The columns are in one flat list, n entries each; values and vector are lists of their own. `spare` is room for the column
 //! that a commit writes and `marks` for the items that it writes, so that a step takes no memory. Contracts see a board as the
-//! definition's record.
+//! definition of the same name.
 
 ghost use Rattle.std.specs.Prelude.{◌≡◌, ℕ, ◌+◌, ◌<◌, ◌≤◌, ◌^◌, List, [], ◌∷◌, ◌++◌, length, get_or, replicate, IfOk};
 ghost use Rattle.air_base.specs.declared.limits.TheConstants.{MOST_VALUES};
@@ -109,6 +109,13 @@ impl Board {
         ensures after { (values : List ℕ) (G : List Event) → self.now ≡ board_of values G → result ≡ starts G }
     {
         self.cycle
+    }
+
+    /// The values of all items.
+    pub fn values(&self) -> &[u64]
+        ensures found { result.now ≡ self.now.values }
+    {
+        &self.values
     }
 
     /// The value of an item after each list of events whose board this is.

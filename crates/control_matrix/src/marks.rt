@@ -1,6 +1,6 @@
 //! The marks of a commit: a list with 1 at each item that it writes, and 0 at the others.
 //!
-//! One list of marks is used to stamp both the written column and the write vector with the commit's cycle.
+//! One list of marks is used to stamp both the written column and the write vector with the commit's cycle. It is cleared at each commit.
 
 ghost use Rattle.std.specs.Prelude.{◌≡◌, cond, length, EachIndex, slice_index};
 ghost use Rattle.air_history.specs.Histories.{writes, ItemsFit};

@@ -9,6 +9,7 @@ use air_base::{ListFault, NoMemory, ReadOf, Reads, Values, read_list, read_u64, 
 use std::alloc::Global;
 
 /// A value is put at its own place.
+/// Promise: shared parts are their definitions
 pub fn another_value_replaced(list: &mut Values)
     requires { list.old ≡ 10 ∷ 20 ∷ [] }
     ensures { list.new ≡ 10 ∷ 5 ∷ [] }
@@ -17,6 +18,8 @@ pub fn another_value_replaced(list: &mut Values)
 }
 
 /// A double space makes an empty part, which is no number: it begins at byte 2. It also refuses that the byte after it is named.
+/// Promise: every answer is a named one
+/// Promise: texts are exact
 pub fn double_space_taken(alloc: Global, text: &[u8]) -> Result<Vec<u64>, ListFault>
     requires { text.now ≡ codes "1  2" }
     ensures { MatchResult result (λ _. ⊥) (λ fault. (fault ≡ BadNumber 2) ⊎ (fault ≡ NoRoom)) }
@@ -25,6 +28,7 @@ pub fn double_space_taken(alloc: Global, text: &[u8]) -> Result<Vec<u64>, ListFa
 }
 
 /// After out of memory nothing is written; otherwise all digits are. It also refuses that the last digit is left out.
+/// Promise: a refusal leaves its objects
 pub fn half_written_after_no_memory(out: &mut Vec<u8>) -> Result<(), NoMemory>
     requires { out.old.items ≡ codes "x" }
     ensures { MatchResult result (λ _. out.new.items ≡ codes "x120") (λ _. out.new.items ≡ codes "x") }
@@ -33,6 +37,7 @@ pub fn half_written_after_no_memory(out: &mut Vec<u8>) -> Result<(), NoMemory>
 }
 
 /// No number has a zero before others.
+/// Promise: texts are exact
 pub fn leading_zero_taken(text: &[u8]) -> Option<u64>
     requires { text.now ≡ codes "07" }
     ensures { result ≡ None }
@@ -41,6 +46,7 @@ pub fn leading_zero_taken(text: &[u8]) -> Option<u64>
 }
 
 /// The number is what its digits say, and not how many they are.
+/// Promise: texts are exact
 pub fn length_for_the_number(text: &[u8]) -> Option<u64>
     requires { text.now ≡ codes "12345" }
     ensures { result ≡ Some 12345 }
@@ -49,6 +55,7 @@ pub fn length_for_the_number(text: &[u8]) -> Option<u64>
 }
 
 /// No number has a sign.
+/// Promise: texts are exact
 pub fn plus_sign_taken(text: &[u8]) -> Option<u64>
     requires { text.now ≡ codes "+7" }
     ensures { result ≡ None }
@@ -57,6 +64,7 @@ pub fn plus_sign_taken(text: &[u8]) -> Option<u64>
 }
 
 /// A text whose value needs more than 64 bits spells no number.
+/// Promise: texts are exact
 pub fn too_great_number_is_the_greatest(text: &[u8]) -> Option<u64>
     requires { text.now ≡ codes "18446744073709551620" }
     ensures { result ≡ None }
@@ -65,6 +73,7 @@ pub fn too_great_number_is_the_greatest(text: &[u8]) -> Option<u64>
 }
 
 /// A list lends all its items, in their order.
+/// Promise: shared parts are their definitions
 pub fn item_left_out_of_a_list(list: &Values) -> &[u64]
     requires { list.now ≡ 10 ∷ 20 ∷ [] }
     ensures { result.now ≡ 10 ∷ 20 ∷ [] }
@@ -73,6 +82,7 @@ pub fn item_left_out_of_a_list(list: &Values) -> &[u64]
 }
 
 /// A list of reads lends all of them, in their order.
+/// Promise: shared parts are their definitions
 pub fn read_left_out_of_a_list(list: &Reads) -> &[ReadOf]
     requires { list.now ≡ record { item = 0; cycle = 1; value = 10 } ∷ record { item = 1; cycle = 2; value = 20 } ∷ [] }
     ensures { result.now ≡ record { item = 0; cycle = 1; value = 10 } ∷ record { item = 1; cycle = 2; value = 20 } ∷ [] }

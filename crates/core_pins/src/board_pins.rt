@@ -15,6 +15,7 @@ use std::alloc::Global;
 
 /// A commit that reads what it writes reads the column as it was before, and the whole of it is merged. It also refuses that of
 /// this column only the entry of the item that is read is taken.
+/// Promise: the board steps with the history
 pub fn column_already_changed(board: &mut Board, event: &Event)
     requires board { board.old ≡ pair_board }
     requires event { event.now ≡ commit 0 (1 ∷ []) (add_to 1 1 1) }
@@ -24,6 +25,7 @@ pub fn column_already_changed(board: &mut Board, event: &Event)
 }
 
 /// All entries of the board of no event are 0.
+/// Promise: the board steps with the history
 pub fn entries_begin_at_one(alloc: Global, values: &[u64]) -> Result<Board, NoMemory>
     requires { values.now ≡ 10 ∷ 20 ∷ [] }
     ensures { IfOk result (λ board. board ≡ record { cycle = 0; values = 10 ∷ 20 ∷ []; columns = (0 ∷ 0 ∷ []) ∷ (0 ∷ 0 ∷ []) ∷ []; vector = 0 ∷ 0 ∷ [] }) }
@@ -32,6 +34,7 @@ pub fn entries_begin_at_one(alloc: Global, values: &[u64]) -> Result<Board, NoMe
 }
 
 /// The column of item 1 isn't that of item 0.
+/// Promise: the board steps with the history
 pub fn first_column_for_each_item(board: &Board) -> &[u32]
     requires { board.now ≡ pair_board }
     ensures { result.now ≡ 1 ∷ 1 ∷ [] }
@@ -41,6 +44,7 @@ pub fn first_column_for_each_item(board: &Board) -> &[u32]
 
 /// A blind write leaves nothing of the old column except its own cycle. The vector has the cycle only at the item that is
 /// written. It also refuses that the vector is forgotten, and that marks of the commit before are kept.
+/// Promise: the board steps with the history
 pub fn old_column_survives(board: &mut Board, event: &Event)
     requires board { board.old ≡ pair_board }
     requires event { event.now ≡ commit 0 [] (set_to 1 5) }
@@ -50,6 +54,7 @@ pub fn old_column_survives(board: &mut Board, event: &Event)
 }
 
 /// The write vector is the board's own.
+/// Promise: the board steps with the history
 pub fn spare_for_vector(board: &Board) -> &[u32]
     requires { board.now ≡ pair_board }
     ensures { result.now ≡ 1 ∷ 1 ∷ [] }
@@ -58,6 +63,7 @@ pub fn spare_for_vector(board: &Board) -> &[u32]
 }
 
 /// A start begins the next cycle, and changes nothing else.
+/// Promise: the board steps with the history
 pub fn start_without_cycle(board: &mut Board, event: &Event)
     requires board { board.old ≡ pair_board }
     requires event { event.now ≡ Start }

@@ -10,6 +10,7 @@ use air_base::Clash;
 use column_check::Held;
 
 /// A read clashes with no held one if neither column has the other's item at the other's cycle or later.
+/// Promise: the held-read check is its definition
 pub fn always_aborts(held: &Held, column: &[u32]) -> Option<Clash>
     requires held { held.now ≡ two (read_with_entries 0 1 0 0 0) (read_with_entries 1 4 0 0 2) }
     requires column { column.now ≡ 0 ∷ 2 ∷ 0 ∷ [] }
@@ -20,6 +21,7 @@ pub fn always_aborts(held: &Held, column: &[u32]) -> Option<Clash>
 
 /// The clash is with the held read whose cycle the new column reaches, in any order of holding. It also refuses that only the
 /// held columns decide.
+/// Promise: the held-read check is its definition
 pub fn first_held_for_the_clashing(held: &Held, column: &[u32]) -> Option<Clash>
     requires held { held.now ≡ two (read_with_entries 0 1 0 0 0) (read_with_entries 1 2 0 0 0) }
     requires column { column.now ≡ 0 ∷ 3 ∷ 0 ∷ [] }
@@ -29,6 +31,7 @@ pub fn first_held_for_the_clashing(held: &Held, column: &[u32]) -> Option<Clash>
 }
 
 /// A held column that has the new item at the new cycle is a clash too.
+/// Promise: the held-read check is its definition
 pub fn one_way_check(held: &Held, column: &[u32]) -> Option<Clash>
     requires held { held.now ≡ two (read_with_entries 0 1 0 0 0) (read_with_entries 1 5 0 0 3) }
     requires column { column.now ≡ 0 ∷ 0 ∷ 0 ∷ [] }

@@ -15,6 +15,7 @@ use update_commit::{Core, Receipt};
 
 /// A copy of a commit has the commit's number, and the first event after the start is copied too. It also refuses that the
 /// copies begin one event too late.
+/// Promise: the core appends and replies
 pub fn copies_of_commits_lose_their_number(
     alloc: Global,
     core: &Core,
@@ -28,6 +29,7 @@ pub fn copies_of_commits_lose_their_number(
 }
 
 /// Room that was given is there.
+/// Promise: the core appends and replies
 pub fn no_room_made(core: &mut Core) -> Result<(), NoMemory>
     requires { core.old.spare ≡ 0 }
     ensures { OnOk result (3 ≤ core.new.spare) }
@@ -37,6 +39,7 @@ pub fn no_room_made(core: &mut Core) -> Result<(), NoMemory>
 
 /// A receipt has as read the values from before the commit, and as written those of one run; its number is the number of events
 /// before it. It also refuses that the update is run twice, and that the number counts the commit itself.
+/// Promise: the core appends and replies
 pub fn read_values_from_after_the_commit(core: &mut Core, update: Update, into: &mut Receipt)
     requires core { core.old ≡ core_of [] }
     requires update { update ≡ update_of (0 ∷ []) (add_to 0 0 1) }
@@ -47,6 +50,7 @@ pub fn read_values_from_after_the_commit(core: &mut Core, update: Update, into: 
 }
 
 /// A value is the one after all events.
+/// Promise: the core appends and replies
 pub fn value_from_before_all_events(core: &Core) -> u64
     requires { core.now ≡ core_of (commit 0 [] (set_to 0 5) ∷ []) }
     ensures { result ≡ 5 }

@@ -10,6 +10,7 @@ use air_base::Clash;
 use held_reads::{HeldEntries, lesser_clash};
 
 /// A clash has the cycle in which its item is held, and not the entry that reaches it.
+/// Promise: the held-read check is its definition
 pub fn entry_for_the_held_cycle(held: &HeldEntries, entries: &[u32]) -> Option<Clash>
     requires held { held.now ≡ two (read_with_entries 0 1 0 0 0) (read_with_entries 1 2 0 0 0) }
     requires entries { entries.now ≡ 0 ∷ 5 ∷ 0 ∷ [] }
@@ -19,6 +20,7 @@ pub fn entry_for_the_held_cycle(held: &HeldEntries, entries: &[u32]) -> Option<C
 }
 
 /// Reads whose cycles are 254 apart aren't too far apart. It refuses that 254 are too many.
+/// Promise: the held-read check is its definition
 pub fn apart_at_254(held: &HeldEntries) -> bool
     requires { held.now ≡ two (read_with_entries 0 1 0 0 0) (read_with_entries 1 3 0 0 0) }
     ensures { result ≡ false }
@@ -28,6 +30,7 @@ pub fn apart_at_254(held: &HeldEntries) -> bool
 
 /// Reads whose cycles are 255 apart are too far apart. It refuses that only more than 255 are too many, that the new read is
 /// left out, and that only the last held cycle is tested.
+/// Promise: the held-read check is its definition
 pub fn apart_above_255(held: &HeldEntries) -> bool
     requires { held.now ≡ two (read_with_entries 0 300 0 0 0) (read_with_entries 1 299 0 0 0) }
     ensures { result ≡ true }
@@ -36,6 +39,7 @@ pub fn apart_above_255(held: &HeldEntries) -> bool
 }
 
 /// The held reads are compared with each other too. It refuses that each of them is compared only with the new one.
+/// Promise: the held-read check is its definition
 pub fn apart_from_the_new_alone(held: &HeldEntries) -> bool
     requires { held.now ≡ two (read_with_entries 0 1 0 0 0) (read_with_entries 1 256 0 0 0) }
     ensures { result ≡ true }
@@ -44,6 +48,7 @@ pub fn apart_from_the_new_alone(held: &HeldEntries) -> bool
 }
 
 /// The last cycle isn't the first.
+/// Promise: the held-read check is its definition
 pub fn first_cycle_for_last(held: &HeldEntries) -> Option<u32>
     requires { held.now ≡ two (read_with_entries 0 1 0 0 0) (read_with_entries 1 3 0 0 0) }
     ensures { result ≡ Some 3 }
@@ -52,6 +57,7 @@ pub fn first_cycle_for_last(held: &HeldEntries) -> Option<u32>
 }
 
 /// Of two clashes, the one with the lesser item is named, also if it comes later.
+/// Promise: the held-read check is its definition
 pub fn first_held_for_least(best: Option<Clash>, clash: Clash) -> Clash
     requires best { best ≡ Some (record { item = 5; cycle = 1 }) }
     requires clash { clash ≡ record { item = 2; cycle = 3 } }
@@ -61,6 +67,7 @@ pub fn first_held_for_least(best: Option<Clash>, clash: Clash) -> Clash
 }
 
 /// A held read keeps the entries that were heard with it.
+/// Promise: the held-read check is its definition
 pub fn hold_forgets_the_column(held: &mut HeldEntries, entries: &[u32])
     requires held { held.old ≡ record { n = 3; reads = [] } }
     requires entries { entries.now ≡ 0 ∷ 1 ∷ 1 ∷ [] }
@@ -70,6 +77,7 @@ pub fn hold_forgets_the_column(held: &mut HeldEntries, entries: &[u32])
 }
 
 /// An entry of the cycle itself is not below it.
+/// Promise: the held-read check is its definition
 pub fn not_above_for_below(held: &HeldEntries) -> Option<Clash>
     requires { held.now ≡ two (read_with_entries 0 4 0 0 2) (read_with_entries 1 4 0 0 3) }
     ensures { result ≡ Some (record { item = 1; cycle = 4 }) }

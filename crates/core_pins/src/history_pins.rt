@@ -16,6 +16,8 @@ use air_history::{
 use std::alloc::Global;
 
 /// What a write gives is computed from the values before the event: two items exchange their values.
+/// Promise: the core appends and replies
+/// Promise: scans and kernels are their definitions
 pub fn base_read_after_write(event: &Event, values: &mut [u64])
     requires event { event.now ≡ exchange }
     requires values { values.old ≡ 7 ∷ 8 ∷ [] }
@@ -26,6 +28,7 @@ pub fn base_read_after_write(event: &Event, values: &mut [u64])
 }
 
 /// A commit also descends from the writers of what its writers read.
+/// Promise: scans and kernels are their definitions
 pub fn direct_writers_only(alloc: Global, history: &History) -> Result<Vec<bool>, NoMemory>
     requires { history.now ≡ chain }
     ensures { IfOk result (λ marks. marks.items ≡ false ∷ true ∷ true ∷ true ∷ false ∷ []) }
@@ -34,6 +37,7 @@ pub fn direct_writers_only(alloc: Global, history: &History) -> Result<Vec<bool>
 }
 
 /// An item equal to the number of items doesn't fit.
+/// Promise: shared parts are their definitions
 pub fn fits_at_the_limit(update: &Update) -> bool
     requires { update.now ≡ update_of (2 ∷ []) (set_to 0 1) }
     ensures { result ≡ false }
@@ -42,6 +46,7 @@ pub fn fits_at_the_limit(update: &Update) -> bool
 }
 
 /// The last of the events that are to be run is run too.
+/// Promise: scans and kernels are their definitions
 pub fn last_event_not_run(history: &History, values: &mut [u64])
     requires history { history.now ≡ chain }
     requires values { values.old ≡ 10 ∷ 20 ∷ 30 ∷ [] }
@@ -51,6 +56,7 @@ pub fn last_event_not_run(history: &History, values: &mut [u64])
 }
 
 /// A base that isn't read is reported as such.
+/// Promise: every answer is a named one
 pub fn limit_for_a_base(
     alloc: Global,
     reads: &[u16],
@@ -64,6 +70,7 @@ pub fn limit_for_a_base(
 }
 
 /// An update has all of its sixteen reads.
+/// Promise: shared parts are their definitions
 pub fn reads_cut_at_fifteen(
     alloc: Global,
     reads: &[u16],
@@ -77,6 +84,7 @@ pub fn reads_cut_at_fifteen(
 }
 
 /// Each start counts.
+/// Promise: shared parts are their definitions
 pub fn starts_counted_once(history: &History) -> u32
     requires { history.now ≡ chain }
     ensures { result ≡ 2 }
@@ -85,6 +93,7 @@ pub fn starts_counted_once(history: &History) -> u32
 }
 
 /// The column of an item is that of its own last writer.
+/// Promise: scans and kernels are their definitions
 pub fn stranger_in_the_column(
     alloc: Global,
     history: &History,
@@ -98,6 +107,7 @@ pub fn stranger_in_the_column(
 }
 
 /// What is written in a cycle isn't aired in that cycle.
+/// Promise: scans and kernels are their definitions
 pub fn writer_of_the_cycle_itself(history: &History) -> Option<u64>
     requires { history.now ≡ chain }
     ensures { result ≡ None }

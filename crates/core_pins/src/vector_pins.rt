@@ -16,6 +16,8 @@ use vector_policies::{DataHeld, RHeld};
 
 /// Datacycle names a read of the newest held cycle if its vector has the new item at the new cycle. It also refuses that the
 /// oldest held cycle decides.
+/// Promise: the held-read check is its definition
+/// Promise: accepted reads share a cycle
 pub fn another_cycle_for_the_newest(held: &DataHeld, vector: &[u32]) -> Option<Clash>
     requires held { held.now ≡ two (read_with_entries 0 2 0 0 0) (read_with_entries 1 4 0 0 3) }
     requires vector { vector.now ≡ 0 ∷ 0 ∷ 0 ∷ [] }
@@ -26,6 +28,7 @@ pub fn another_cycle_for_the_newest(held: &DataHeld, vector: &[u32]) -> Option<C
 
 /// If the new item was written since the first held cycle, R-Matrix names the held read that is stale, in any order of holding.
 /// It also refuses that the last held cycle decides.
+/// Promise: the held-read check is its definition
 pub fn first_named_for_the_stale(held: &RHeld, vector: &[u32]) -> Option<Clash>
     requires held { held.now ≡ two (read_with_entries 0 2 0 0 0) (read_with_entries 1 3 0 0 2) }
     requires vector { vector.now ≡ 0 ∷ 4 ∷ 2 ∷ [] }
@@ -36,6 +39,7 @@ pub fn first_named_for_the_stale(held: &RHeld, vector: &[u32]) -> Option<Clash>
 
 /// A write that is 255 cycles old may be heard as none: for every history that has the write, the answer stays that history's.
 /// It refuses a cap that is one cycle late.
+/// Promise: the held-read check is its definition
 pub fn capped_one_cycle_late(held: &DataHeld, vector: &[u32]) -> Option<Clash>
     requires held { held.now ≡ record { n = 3; reads = read_with_entries 0 2 0 1 0 ∷ [] } }
     requires vector { vector.now ≡ 0 ∷ 0 ∷ 2 ∷ [] }
@@ -46,6 +50,7 @@ pub fn capped_one_cycle_late(held: &DataHeld, vector: &[u32]) -> Option<Clash>
 }
 
 /// In a new newest cycle Datacycle names the held read that is stale there.
+/// Promise: the held-read check is its definition
 pub fn newest_named_for_the_stale(held: &DataHeld, vector: &[u32]) -> Option<Clash>
     requires held { held.now ≡ two (read_with_entries 0 2 0 0 0) (read_with_entries 1 4 0 0 0) }
     requires vector { vector.now ≡ 3 ∷ 0 ∷ 0 ∷ [] }
@@ -55,6 +60,7 @@ pub fn newest_named_for_the_stale(held: &DataHeld, vector: &[u32]) -> Option<Cla
 }
 
 /// R-Matrix takes a read of an item that wasn't written since the first held cycle, though a held read is stale.
+/// Promise: the held-read check is its definition
 pub fn second_condition_forgotten(held: &RHeld, vector: &[u32]) -> Option<Clash>
     requires held { held.now ≡ two (read_with_entries 0 2 0 0 0) (read_with_entries 1 3 0 0 0) }
     requires vector { vector.now ≡ 3 ∷ 0 ∷ 0 ∷ [] }
@@ -64,6 +70,7 @@ pub fn second_condition_forgotten(held: &RHeld, vector: &[u32]) -> Option<Clash>
 }
 
 /// For every history that aired these vectors, a read is taken if and only if all reads stay current.
+/// Promise: the held-read check is its definition
 pub fn taken_though_a_read_is_stale(held: &DataHeld, vector: &[u32]) -> Option<Clash>
     requires held { held.now ≡ record { n = 3; reads = read_with_entries 0 2 0 0 0 ∷ [] } }
     requires vector { vector.now ≡ 3 ∷ 0 ∷ 0 ∷ [] }

@@ -8,12 +8,12 @@ use Rattle.std.proofs.lemmas.List.Elements.{All-head, All-tail}
 use Rattle.std.proofs.lemmas.List.FromFn.{length-map-range_with_len}
 use Rattle.air_history.specs.declared.histories.Event.{Event}
 use Rattle.air_history.specs.declared.histories.Event.TheVariants.{Start}
-use Rattle.air_history.specs.Histories.{is_start, starts, ItemsFit}
+use Rattle.air_history.specs.Histories.{is_start, starts, ItemsFit, events_in}
 use Rattle.air_history.specs.Tables.{table, values_of, BasesRead}
 use Rattle.air_history.specs.Boards.{Board, board_of}
 use Rattle.control_matrix.specs.BoardSteps.{step_all, step_board}
 use Rattle.control_matrix.proofs.BoardLemmas.{board_push}
-use Rattle.cycle_snapshot.specs.Batches.{IsBatch, batch_events}
+use Rattle.cycle_snapshot.specs.Batches.{IsBatch}
 use Rattle.cycle_snapshot.specs.Private.BoardRuns.{after_batch}
 
 -- ---- starts
@@ -35,16 +35,16 @@ pub batch_starts : (n : ℕ) (batch : List Event) → IsBatch n batch → starts
 batch_starts n batch h = ap starts h.ends.1 ∙ (let a = starts_append h.ends.0 (Start ∷ []) in let one = starts_one in let none = h.ends.2 in omega arith)
 
 -- The events of batches have as many starts as there are batches.
-pub starts_events : (n : ℕ) (bs : List (List Event)) → All (IsBatch n) bs → starts (batch_events bs) ≡ length bs
+pub starts_events : (n : ℕ) (bs : List (List Event)) → All (IsBatch n) bs → starts (events_in bs) ≡ length bs
 starts_events n [] all = starts_none
 starts_events n (b ∷ bs) all =
-    let a = starts_append b (batch_events bs) in
+    let a = starts_append b (events_in bs) in
     let one = batch_starts n b (All-head (IsBatch n) b bs all) in
     let rest = starts_events n bs (All-tail (IsBatch n) b bs all) in
     omega arith
 
 -- The events of batches and one more batch.
-pub events_more : (bs : List (List Event)) (b : List Event) → batch_events (bs ++ b ∷ []) ≡ batch_events bs ++ b
+pub events_more : (bs : List (List Event)) (b : List Event) → events_in (bs ++ b ∷ []) ≡ events_in bs ++ b
 events_more bs b = sym (flat_map_more (λ b. b) [] bs b)
 
 -- ---- boards

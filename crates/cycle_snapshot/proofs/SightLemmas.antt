@@ -9,7 +9,8 @@ use Rattle.air_history.specs.declared.histories.Event.{Event}
 use Rattle.air_history.specs.Boards.{board_of}
 use Rattle.cycle_snapshot.specs.declared.board_sides.BoardSide.{BoardSide}
 use Rattle.cycle_snapshot.specs.declared.board_sides.News.{News}
-use Rattle.cycle_snapshot.specs.Batches.{IsBatch, batch_events}
+use Rattle.air_history.specs.Histories.{events_in}
+use Rattle.cycle_snapshot.specs.Batches.{IsBatch}
 use Rattle.cycle_snapshot.specs.Beginnings.{Beginning}
 use Rattle.control_matrix.specs.BoardSteps.{step_all}
 use Rattle.cycle_snapshot.specs.Private.BoardRuns.{after_news}
@@ -72,7 +73,7 @@ opens_rule x h = (h, only_none x)
 
 -- The board of a side has as many values as it started from.
 pub shown_values : (x : BoardSide) → IsPublished x → length x.board.values ≡ length x.values
-shown_values x h = ap (λ b. length b.values) h.board ∙ board_values x.values (batch_events x.list.batches)
+shown_values x h = ap (λ b. length b.values) h.board ∙ board_values x.values (events_in x.list.batches)
 
 -- The side that took in the news that is next follows the old one, and is valid.
 pub news_follow : (x next : BoardSide) (n : News) → next ≡ after_news x n → IsNextNews x n → Follows x next × (IsPublished x → IsPublished next)
@@ -86,14 +87,14 @@ news_follow x next n is k =
           let width : n.items ≡ length x.board.values = k.items ∙ sym (shown_values x h) in
           let small = h.most in
           let room = k.room in
-          let board : next.board ≡ board_of x.values (batch_events (x.list.batches ++ n.batch ∷ [])) =
+          let board : next.board ≡ board_of x.values (events_in (x.list.batches ++ n.batch ∷ [])) =
           ap (λ y. y.board) is
           ∙ batch_taken x.board n.items n.batch width (omega arith)
           ∙ ap (λ b. step_all b n.batch) h.board
-          ∙ board_all x.values (batch_events x.list.batches) n.batch k.batch.fits k.bases
+          ∙ board_all x.values (events_in x.list.batches) n.batch k.batch.fits k.bases
           ∙ ap (board_of x.values) (sym (events_more x.list.batches n.batch)) in
           record {
-            board = board ∙ (λ i. board_of (sym values i) (batch_events (sym log i)));
+            board = board ∙ (λ i. board_of (sym values i) (events_in (sym log i)));
             few = let a = ap length log ∙ length-append x.list.batches (n.batch ∷ []) in omega arith;
             most = omega arith;
             batches = subst (λ v. All (IsBatch (length v)) next.list.batches) (sym values) (subst (All (IsBatch (length x.values))) (sym log) (All-push (IsBatch (length x.values)) x.list.batches n.batch h.batches k.batch));
@@ -107,7 +108,7 @@ none_good n (b ∷ bs) e = absurd (cc (e))
 -- The side of the empty list is valid.
 pub first_is : (x : BoardSide) (values : List ℕ) (most : ℕ) (list : Beginning) → x ≡ record { board = board_of values []; values = values; most = most; list = list } → list.batches ≡ [] → most < 4294967295 → IsPublished x
 first_is x values most list e none small = subst IsPublished (sym e) record {
-  board = ap (board_of values) (ap batch_events (sym none));
+  board = ap (board_of values) (ap events_in (sym none));
   few = let h = ap length none in omega arith;
   most = small;
   batches = none_good (length values) list.batches none;

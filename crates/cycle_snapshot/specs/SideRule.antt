@@ -7,12 +7,13 @@ use Rattle.air_history.specs.Boards.{Frame, board_of, frame_of}
 use Rattle.air_history.specs.Tables.{BasesRead}
 use Rattle.cycle_snapshot.specs.declared.board_sides.BoardSide.{BoardSide}
 use Rattle.cycle_snapshot.specs.declared.board_sides.News.{News}
-use Rattle.cycle_snapshot.specs.Batches.{IsBatch, batch_events}
+use Rattle.air_history.specs.Histories.{events_in}
+use Rattle.cycle_snapshot.specs.Batches.{IsBatch}
 use Rattle.cycle_snapshot.specs.Beginnings.{Beginning}
 
 -- The board is that of the published batches, of which there are no more than the most.
 pub record IsPublished (x : BoardSide) : Type 0 where
-  pub board : x.board ≡ board_of x.values (batch_events x.list.batches)
+  pub board : x.board ≡ board_of x.values (events_in x.list.batches)
   pub few : length x.list.batches ≤ x.most
   pub most : x.most < 2 ^ 32 - 1
   pub batches : All (IsBatch (length x.values)) x.list.batches
@@ -42,7 +43,7 @@ Sees v x y w = (w ≡ Some y) × Agrees v y × IsPublished y
 pub record HasCopied (y : BoardSide) (note : Beginning) (frame : Frame) (given : Beginning) : Type 0 where
   pub shown : IsPublished y
   pub told : IsPrefix note.batches y.list.batches
-  pub kept : frame ≡ frame_of y.values (batch_events y.list.batches)
+  pub kept : frame ≡ frame_of y.values (events_in y.list.batches)
   pub list : given ≡ y.list
 
 -- The news is a batch for the side, with the list that ends with it, and there is room for it.

@@ -3,7 +3,8 @@ use Rattle.std.specs.Prelude.{◌≡◌, ℕ, ◌≤◌, ◌+◌, ◌-◌, ◌^�
 use mathlib.Core.List.{IsPrefix}
 use Rattle.air_history.specs.declared.histories.Event.{Event}
 use Rattle.air_history.specs.Boards.{Frame, frame_of}
-use Rattle.cycle_snapshot.specs.Batches.{IsBatch, batch_events}
+use Rattle.air_history.specs.Histories.{events_in}
+use Rattle.cycle_snapshot.specs.Batches.{IsBatch}
 use Rattle.cycle_snapshot.specs.Beginnings.{PublisherId, Beginning}
 
 -- The publisher's identity, the values that its history starts from, the most batches that it publishes, and those that it has.
@@ -55,6 +56,6 @@ pub record HasLooked (m n : MonitorState) : Type 0 where
   pub told : IsPrefix m.told n.seen
   pub batches : All (IsBatch (length m.values)) n.seen
   pub few : length n.seen ≤ m.most
-  pub kept : n.kept ≡ frame_of m.values (batch_events n.seen)
+  pub kept : n.kept ≡ frame_of m.values (events_in n.seen)
   pub looks : n.looks ≡ min (m.looks + 1) (2 ^ 64 - 1)
   pub same : n ≡ record m { seen = n.seen; kept = n.kept; looks = n.looks }

@@ -8,7 +8,7 @@ use control_matrix::Board;
 use std::alloc::Global;
 use std::marker::Model;
 
-/// A frame. Contracts see the definition's record.
+/// A frame. Contracts see it as the definition `Frame`.
 #[derive(Drop)]
 pub struct KeptFrame {
     cycle: u32,

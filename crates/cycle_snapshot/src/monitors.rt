@@ -59,7 +59,7 @@ impl Model for Monitor {
 impl Monitor {
     /// Copies the frame of a beginning of the published list into the one that the monitor keeps. It never waits and takes no
     /// memory. It answers `NoMemory` if `left_right` refuses the look, or shows less than was told; the monitor is then as
-    /// before.
+    /// before. In a run, a look never shows less.
     pub fn look(&mut self) -> Result<(), NoMemory>
         ensures { MatchResult result (λ _. HasLooked self.old self.new) (λ _. self.new ≡ self.old) }
     {

@@ -1,7 +1,7 @@
 //! The last look, after all was told.
 ghost use Rattle.std.specs.Prelude.{◌≡◌, length, IfOk};
 ghost use Rattle.air_history.specs.Boards.{frame_of};
-ghost use Rattle.cycle_snapshot.specs.Batches.{batch_events};
+ghost use Rattle.air_history.specs.Histories.{events_in};
 
 use air_base::NoMemory;
 use cycle_snapshot::{Monitor, Publisher};
@@ -12,7 +12,7 @@ pub fn last_look(publisher: &Publisher, monitor: &mut Monitor) -> Result<(), NoM
     requires own { monitor.old.publisher ≡ publisher.now.id }
     requires full { length publisher.now.batches ≡ monitor.old.most }
     ensures seen { IfOk result (λ _. monitor.new.seen ≡ publisher.now.batches) }
-    ensures kept { IfOk result (λ _. monitor.new.kept ≡ frame_of monitor.old.values (batch_events publisher.now.batches)) }
+    ensures kept { IfOk result (λ _. monitor.new.kept ≡ frame_of monitor.old.values (events_in publisher.now.batches)) }
 {
     monitor.learn(publisher.tell());
     monitor.look()

@@ -153,5 +153,6 @@ fn add_settings(deck: &Deck, came: &mut Vec<u8>) -> Result<(), NoMemory> {
     add_line(b"late", &[u64::from(settings.late)], came)?;
     add_line(b"monitors", &[u64::from(settings.monitors)], came)?;
     add_line(b"hears", &[u64::from(settings.hears)], came)?;
-    add_line(b"version", &[u64::from(settings.version)], came)
+    add_line(b"version", &[u64::from(settings.version)], came)?;
+    add_line(b"group", &[u64::from(settings.group)], came)
 }

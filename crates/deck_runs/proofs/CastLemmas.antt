@@ -11,7 +11,7 @@ use Rattle.air_model.proofs.EditionLemmas.{slots_are}
 use Rattle.air_devices.specs.Counts.{Rose}
 use Rattle.air_devices.specs.Masts.{Changes, MastState, SentBuckets, nothing_sent, with_buckets, with_end}
 use Rattle.air_devices.specs.WhatIsTold.{WhereTold}
-use Rattle.deck_runs.specs.DeckBytes.{deck_bytes}
+use Rattle.air_sender.specs.AiredBytes.{aired_bytes}
 use Rattle.deck_runs.specs.RunAnswers.{IsRunAnswer}
 use Rattle.deck_runs.specs.declared.threads.RunFault.{RunFault}
 use Rattle.deck_runs.specs.declared.threads.RunFault.TheVariants as fault
@@ -60,7 +60,7 @@ end_behind B (Some s) mid now last unsent same h ended =
 -- ---- how many buckets there are
 
 -- The number of buckets that a whole history of a deck airs.
-bytes_count : (deck : Deck) (H : List Event) → IsWhole deck H → length (deck_bytes deck H) ≡ bucket_count deck
+bytes_count : (deck : Deck) (H : List Event) → IsWhole deck H → length (aired_bytes deck H) ≡ bucket_count deck
 bytes_count deck H whole = count_bytes (values_in deck) (air_of deck) H ∙ ap (buckets_up_to deck) whole.cycles
 
 -- One cycle more has the slots of the program that is in force in it.
@@ -79,15 +79,15 @@ buckets_more deck done slots p is count =
 pub none_cast : {M : Type 0} (state : M → MastState) (deck : Deck) (before now : M) → Unsent (state before).told → (state now).told ≡ (state before).told → IsCastBeginning deck 0 (state before).told (state now).told
 none_cast state deck before now unsent same =
     let h = sends_nothing state deck now in
-    let first = nothing_more (deck_bytes deck h.history) (state now).told in
-    record { history = h.history; whole = h.whole; within = omega arith; sent = first_behind 0 (deck_bytes deck h.history) (state before).told (state now).told (state now).told unsent same first }
+    let first = nothing_more (aired_bytes deck h.history) (state now).told in
+    record { history = h.history; whole = h.whole; within = omega arith; sent = first_behind 0 (aired_bytes deck h.history) (state before).told (state now).told (state now).told unsent same first }
 
 -- What the threads didn't do isn't cast.
 pub run_cast : {M : Type 0} (state : M → MastState) (deck : Deck) (before mid now : M) (e : RunFault) → Unsent (state before).told → (state mid).told ≡ (state before).told → (state mid).faults ≡ (state before).faults
     → IsRunAnswer state deck mid now e → IsCastAnswer deck (state before) (state now) e
 run_cast state deck before mid now (fault.Mast sent) unsent same calm h =
     let f = h.failed in
-    let B = deck_bytes deck h.history in
+    let B = aired_bytes deck h.history in
     let first : Changes (with_buckets (take sent B)) (state mid).told (state now).told = subst (λ o. Changes (with_buckets (take sent B)) (state mid).told o) (sym f.kept) f.sent in (
       subst (λ n. Rose n (state now).faults) (f.calm ∙ calm) f.rose,
       record {
@@ -105,14 +105,14 @@ run_cast state deck before mid now fault.NoMemory unsent same calm h = (
       history = h.history;
       whole = h.whole;
       within = h.within;
-      sent = first_behind h.count (deck_bytes deck h.history) (state before).told (state mid).told (state now).told unsent same h.sent;
+      sent = first_behind h.count (aired_bytes deck h.history) (state before).told (state mid).told (state now).told unsent same h.sent;
     },
   ),
 )
 
 -- The mast failed after all buckets.
 pub all_cast : (deck : Deck) (H : List Event) (n : ℕ) (before mid now last : Option SentBuckets) → IsWhole deck H → n ≡ bucket_count deck → Unsent before → mid ≡ before
-    → Changes (with_buckets (deck_bytes deck H)) mid now → last ≡ now → IsCastBeginning deck n before last
+    → Changes (with_buckets (aired_bytes deck H)) mid now → last ≡ now → IsCastBeginning deck n before last
 all_cast deck H n before mid now last whole is unsent same sent kept =
-    let count : n ≡ length (deck_bytes deck H) = is ∙ sym (bytes_count deck H whole) in
-    record { history = H; whole = whole; within = omega arith; sent = all_behind n (deck_bytes deck H) before mid now last count unsent same sent kept }
+    let count : n ≡ length (aired_bytes deck H) = is ∙ sym (bytes_count deck H whole) in
+    record { history = H; whole = whole; within = omega arith; sent = all_behind n (aired_bytes deck H) before mid now last count unsent same sent kept }

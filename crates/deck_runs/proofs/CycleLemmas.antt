@@ -6,13 +6,13 @@ use Rattle.std.proofs.lemmas.List.Elements.{All-append, All-from_recursion, All-
 use Rattle.std.proofs.lemmas.List.Sums.{sum_by-cons}
 use Rattle.air_history.specs.declared.histories.Event.{Event}
 use Rattle.air_history.specs.declared.histories.Event.TheVariants.{Commit, Start}
-use Rattle.air_history.specs.Histories.{is_start, starts, since_start, EventFits, ItemsFit}
+use Rattle.air_history.specs.Histories.{is_start, starts, since_start, EventFits, ItemsFit, events_in}
 use Rattle.air_history.specs.Tables.{BasesRead}
 use Rattle.air_history.specs.Boards.{Board, board_of}
 use Rattle.air_model.specs.Closings.{GoesOnWithout}
 use Rattle.update_commit.proofs.EventLemmas.{since_none, since_commit, since_new_start, starts_none}
 use Rattle.station.specs.PassStates.{PassState, with_seen}
-use Rattle.cycle_snapshot.specs.Batches.{IsBatch, batch_events}
+use Rattle.cycle_snapshot.specs.Batches.{IsBatch}
 use Rattle.control_matrix.specs.BoardSteps.{step_all}
 use Rattle.cycle_snapshot.specs.SnapshotStates.{PublisherState, with_batch}
 use Rattle.cycle_snapshot.proofs.BatchLemmas.{starts_append, events_more, board_all, board_values}
@@ -56,7 +56,7 @@ no_starts seen later g = g.2
 pub up_to_on : (n : ℕ) (seen before : List Event) (bs : List (List Event)) → IsUpTo n seen bs → GoesOnWithout is_start seen before → IsUpTo n before bs
 up_to_on n seen before bs up g = let quiet = no_starts seen before g in record {
   later = up.later ++ g.0;
-  begins = g.1 ∙ ap (λ l. l ++ g.0) up.begins ∙ append_assoc (batch_events bs) up.later g.0;
+  begins = g.1 ∙ ap (λ l. l ++ g.0) up.begins ∙ append_assoc (events_in bs) up.later g.0;
   ends = up.ends;
   rest = let a = starts_append up.later g.0 in let b = up.rest in omega arith;
   count = let a = ap starts g.1 ∙ starts_append seen g.0 in let b = up.count in omega arith;
@@ -64,13 +64,13 @@ up_to_on n seen before bs up g = let quiet = no_starts seen before g in record {
 
 -- If all starts are published, what is not published yet is what comes after the last start.
 pub up_to_since : (G : List Event) (bs : List (List Event)) (up : IsUpTo 0 G bs) → since_start G ≡ up.later
-up_to_since G bs up = ap since_start up.begins ∙ since_ends (batch_events bs) up.later up.ends up.rest
+up_to_since G bs up = ap since_start up.begins ∙ since_ends (events_in bs) up.later up.ends up.rest
 
 -- A start that is not published.
 pub up_to_start : (G new : List Event) (bs : List (List Event)) → IsUpTo 0 G bs → new ≡ G ++ Start ∷ [] → IsUpTo 1 new bs
 up_to_start G new bs up is = record {
   later = up.later ++ Start ∷ [];
-  begins = is ∙ ap (λ l. l ++ Start ∷ []) up.begins ∙ append_assoc (batch_events bs) up.later (Start ∷ []);
+  begins = is ∙ ap (λ l. l ++ Start ∷ []) up.begins ∙ append_assoc (events_in bs) up.later (Start ∷ []);
   ends = up.ends;
   rest = let a = starts_append up.later (Start ∷ []) in let b = up.rest in let one = starts_one in omega arith;
   count = let a = ap starts is ∙ starts_append G (Start ∷ []) in let b = up.count in let one = starts_one in omega arith;
@@ -79,11 +79,11 @@ up_to_start G new bs up is = record {
 -- The start is published, with what came after the one before.
 pub up_to_batch : (G new fresh : List Event) (bs : List (List Event)) → IsUpTo 0 G bs → new ≡ G ++ Start ∷ [] → fresh ≡ since_start G ++ Start ∷ [] → IsUpTo 0 new (bs ++ fresh ∷ [])
 up_to_batch G new fresh bs up is f =
-    let all : new ≡ batch_events (bs ++ fresh ∷ []) =
-    is ∙ ap (λ l. l ++ Start ∷ []) (up.begins ∙ ap (λ l. batch_events bs ++ l) (sym (up_to_since G bs up))) ∙ append_assoc (batch_events bs) (since_start G) (Start ∷ []) ∙ ap (λ l. batch_events bs ++ l) (sym f) ∙ sym (events_more bs fresh) in
+    let all : new ≡ events_in (bs ++ fresh ∷ []) =
+    is ∙ ap (λ l. l ++ Start ∷ []) (up.begins ∙ ap (λ l. events_in bs ++ l) (sym (up_to_since G bs up))) ∙ append_assoc (events_in bs) (since_start G) (Start ∷ []) ∙ ap (λ l. events_in bs ++ l) (sym f) ∙ sym (events_more bs fresh) in
     record {
       later = [];
-      begins = all ∙ sym (append-nil (batch_events (bs ++ fresh ∷ [])));
+      begins = all ∙ sym (append-nil (events_in (bs ++ fresh ∷ [])));
       ends = inr (G, sym all ∙ is);
       rest = starts_none;
       count = let a = ap starts is ∙ starts_append G (Start ∷ []) in let b = up.count in let one = starts_one in let l = length-append bs (fresh ∷ []) in omega arith;
@@ -139,9 +139,9 @@ publishes_further f g h a b = record {
 }
 
 -- The board of the published list, with one batch more.
-pub board_batch : (values : List ℕ) (b new : Board) (bs : List (List Event)) (fresh : List Event) → b ≡ board_of values (batch_events bs) → new ≡ step_all b fresh → All (ItemsFit (length values)) fresh → All BasesRead fresh
-    → new ≡ board_of values (batch_events (bs ++ fresh ∷ []))
-board_batch values b new bs fresh is stepped fits bases = stepped ∙ ap (λ x. step_all x fresh) is ∙ board_all values (batch_events bs) fresh fits bases ∙ ap (board_of values) (sym (events_more bs fresh))
+pub board_batch : (values : List ℕ) (b new : Board) (bs : List (List Event)) (fresh : List Event) → b ≡ board_of values (events_in bs) → new ≡ step_all b fresh → All (ItemsFit (length values)) fresh → All BasesRead fresh
+    → new ≡ board_of values (events_in (bs ++ fresh ∷ []))
+board_batch values b new bs fresh is stepped fits bases = stepped ∙ ap (λ x. step_all x fresh) is ∙ board_all values (events_in bs) fresh fits bases ∙ ap (board_of values) (sym (events_more bs fresh))
 
 pub board_sized : (values : List ℕ) (b : Board) (G : List Event) → b ≡ board_of values G → length b.values ≡ length values
 board_sized values b G is = ap (λ x. length x.values) is ∙ board_values values G
@@ -150,7 +150,7 @@ board_sized values b G is = ap (λ x. length x.values) is ∙ board_values value
 pub board_cycle : (p : PassState) (f : PublisherState) (b : Board) → AreInStep p f b → b.cycle ≡ starts p.seen
 board_cycle p f b s =
     let up = s.published in
-    ap (λ x. x.cycle) s.board ∙ (let a = ap starts up.begins ∙ starts_append (batch_events f.batches) up.later in let z = up.rest in omega arith)
+    ap (λ x. x.cycle) s.board ∙ (let a = ap starts up.begins ∙ starts_append (events_in f.batches) up.later in let z = up.rest in omega arith)
 
 -- After a cycle was begun they are in step again.
 pub in_step : (p q : PassState) (f g : PublisherState) (b new : Board) (fresh : List Event) → AreInStep p f b → GoesOn p q → g ≡ with_batch f fresh → new ≡ step_all b fresh → IsBatch (length p.values) fresh → All BasesRead fresh
@@ -161,27 +161,27 @@ in_step p q f g b new fresh step on adds stepped is bases up =
     record {
       values = ap (λ x. x.values) adds ∙ step.values ∙ sym values;
       published = subst (IsUpTo 0 q.seen) (sym batches) up;
-      board = board_batch p.values b new f.batches fresh step.board stepped is.fits bases ∙ (λ i. board_of (sym values i) (batch_events (sym batches i)));
+      board = board_batch p.values b new f.batches fresh step.board stepped is.fits bases ∙ (λ i. board_of (sym values i) (events_in (sym batches i)));
     }
 
 -- ---- the board of what was seen
 
-up_to_board : (p : PassState) (bs : List (List Event)) (b : Board) → IsUpTo 0 p.seen bs → b ≡ board_of p.values (batch_events bs) → IsBoardOf p b
-up_to_board p bs b up is = record { beginning = batch_events bs; later = up.later; begins = up.begins; ends = up.ends; rest = up.rest; board = is }
+up_to_board : (p : PassState) (bs : List (List Event)) (b : Board) → IsUpTo 0 p.seen bs → b ≡ board_of p.values (events_in bs) → IsBoardOf p b
+up_to_board p bs b up is = record { beginning = events_in bs; later = up.later; begins = up.begins; ends = up.ends; rest = up.rest; board = is }
 
 pub board_seen : (p : PassState) (f : PublisherState) (b : Board) → AreInStep p f b → IsBoardOf p b
 board_seen p f b step = up_to_board p f.batches b step.published step.board
 
 -- If no cycle was started, the board is that of the list as before.
 pub board_kept : (p q : PassState) (f : PublisherState) (b : Board) → AreInStep p f b → GoesOn p q → IsUpTo 0 q.seen f.batches → IsBoardOf q b
-board_kept p q f b step on up = up_to_board q f.batches b up (step.board ∙ ap (λ v. board_of v (batch_events f.batches)) (sym (on_values p q on)))
+board_kept p q f b step on up = up_to_board q f.batches b up (step.board ∙ ap (λ v. board_of v (events_in f.batches)) (sym (on_values p q on)))
 
 -- If its events weren't published, the board still has them.
 pub board_ahead : (p q : PassState) (f : PublisherState) (b new : Board) (fresh : List Event) → AreInStep p f b → GoesOn p q → new ≡ step_all b fresh → IsBatch (length p.values) fresh → All BasesRead fresh
     → IsUpTo 0 q.seen (f.batches ++ fresh ∷ []) → IsBoardOf q new
 board_ahead p q f b new fresh step on stepped is bases up =
     let bs = f.batches ++ fresh ∷ [] in
-    up_to_board q bs new up (board_batch p.values b new f.batches fresh step.board stepped is.fits bases ∙ ap (λ v. board_of v (batch_events bs)) (sym (on_values p q on)))
+    up_to_board q bs new up (board_batch p.values b new f.batches fresh step.board stepped is.fits bases ∙ ap (λ v. board_of v (events_in bs)) (sym (on_values p q on)))
 
 -- It is at the last start.
 pub board_at : (p : PassState) (b : Board) → IsBoardOf p b → b.cycle ≡ starts p.seen

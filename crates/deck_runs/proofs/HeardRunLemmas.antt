@@ -28,7 +28,7 @@ use Rattle.item_catalog.specs.DeckLimits.{WithinLimits}
 use Rattle.air_model.specs.Runs.{IsRun, Run}
 use Rattle.air_model.proofs.ItemLemmas.{items_aired}
 use Rattle.listeners.specs.HistoryTapes.{HasTape}
-use Rattle.deck_runs.specs.DeckBytes.{deck_bytes}
+use Rattle.air_sender.specs.AiredBytes.{aired_bytes}
 use Rattle.deck_runs.specs.RunTapes.{run_tape_len}
 use Rattle.deck_runs.specs.RunTruths.{IsTrueRun}
 
@@ -97,6 +97,6 @@ sent_all old new bytes fresh sent =
     ap (λ s. s.buckets) is ∙ ap (λ s. s.buckets ++ bytes) was
 
 pub has_tape : (deck : Deck) (run : Run) (old new : TapeMast) (tape : List ℕ) → IsDeck deck → WithinLimits deck → AreShort deck → IsRun deck run → tape_mast_state old ≡ fresh_mast
-    → Changes (with_buckets (deck_bytes deck run.history)) (tape_mast_state old).told (tape_mast_state new).told → tape ≡ tape_of (told_by_tape new).buckets → HasTape deck run.history tape
+    → Changes (with_buckets (aired_bytes deck run.history)) (tape_mast_state old).told (tape_mast_state new).told → tape ≡ tape_of (told_by_tape new).buckets → HasTape deck run.history tape
 has_tape deck run old new tape made within short is fresh sent told =
-    record { aired = run_airs deck run made within short is; same = told ∙ ap tape_of (sent_all old new (deck_bytes deck run.history) fresh sent) }
+    record { aired = run_airs deck run made within short is; same = told ∙ ap tape_of (sent_all old new (aired_bytes deck run.history) fresh sent) }

@@ -1,6 +1,7 @@
 pub mod CommitLemmas
 pub mod CycleLemmas
 pub mod SendLemmas
+pub mod AiringLemmas
 pub mod CrewLemmas
 pub mod LookLemmas
 pub mod RunLemmas

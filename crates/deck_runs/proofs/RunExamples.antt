@@ -32,7 +32,7 @@ use Rattle.chunk_program.specs.Editions.{plans_in}
 use Rattle.chunk_program.specs.Plans.{AreShort}
 use Rattle.station.specs.PassStates.{PassState}
 use Rattle.deck_runs.specs.Casts.{IsCastBeginning, all_sent, first_sent}
-use Rattle.deck_runs.specs.DeckBytes.{deck_bytes}
+use Rattle.air_sender.specs.AiredBytes.{aired_bytes}
 use Rattle.deck_runs.specs.Looks.{LookedTimes}
 use Rattle.deck_runs.specs.PublishedBatches.{IsBoardOf}
 use Rattle.deck_runs.specs.RunTapes.{IsLongRun, run_tape_len}
@@ -54,6 +54,8 @@ is_deck cycles = record {
   most = pair_is_deck.most;
   values = pair_is_deck.values;
   version = pair_is_deck.version;
+  group = pair_is_deck.group;
+  grouped = pair_is_deck.grouped;
   sizes = pair_is_deck.sizes;
   aired = pair_is_deck.aired;
   few = pair_is_deck.few;
@@ -82,6 +84,7 @@ is_within = record {
   script = omega arith;
   starts = omega arith;
   settings = record {
+    group = omega arith;
     cycles = omega arith;
     seed = omega arith;
     loss = omega arith;
@@ -176,9 +179,9 @@ not_tells h =
 -- ---- tapes
 
 -- Two cycles of two buckets.
-aired_bytes : length (deck_bytes pair two_starts) ≡ 4
+two_cycles : length (aired_bytes pair two_starts) ≡ 4
 unfolding order order_with cut program least_common_multiple num_minors num_chunks chunk_len chunk minor_cycle is_start starts buckets_of
-aired_bytes = refl
+two_cycles = refl
 
 -- A run of one cycle has 72 bytes; a tape is too long from one byte above the most on.
 not_long : (bytes : ℕ) → IsLongRun (of_cycles 1) bytes → ⊥
@@ -209,10 +212,10 @@ unfolding order order_with cut program least_common_multiple num_minors num_chun
 changing_buckets = (refl, refl, refl)
 
 -- Its air is that of its plans; that of a deck without replans isn't.
-own_is : IsAirOf (values_in (changing 3)) (form_of (air_of (changing 3))) (plans_in (changing 3)) (air_of (changing 3))
-own_is = own_air (changing 3) (plans_in (changing 3)) (values_in (changing 3)) (form_of (air_of (changing 3))) refl refl refl
+own_is : IsAirOf 0 (values_in (changing 3)) (form_of (air_of (changing 3))) (plans_in (changing 3)) (air_of (changing 3))
+own_is = own_air (changing 3) 0 (plans_in (changing 3)) (values_in (changing 3)) (form_of (air_of (changing 3))) refl refl refl refl
 
-not_own : (values : List ℕ) (form : Form) → IsAirOf values form (plans_in (changing 3)) (air_of pair) → ⊥
+not_own : (values : List ℕ) (form : Form) → IsAirOf 0 values form (plans_in (changing 3)) (air_of pair) → ⊥
 not_own values form h = let second : 0 ≡ 1 = h.edition_is 2 in omega (arith, second)
 
 -- ---- casts
@@ -224,7 +227,7 @@ sent_first : first_sent 1 ((7 ∷ []) ∷ (8 ∷ []) ∷ []) ≡ record { bucket
 sent_first = refl
 
 -- A history without a cycle airs no bucket.
-no_bucket : (deck : Deck) (H : List Event) → starts H ≡ 0 → length (deck_bytes deck H) ≡ 0
+no_bucket : (deck : Deck) (H : List Event) → starts H ≡ 0 → length (aired_bytes deck H) ≡ 0
 unfolding buckets_of
 no_bucket deck H none = ap (λ n. length (map spelling (flat_map (cycle_buckets (values_in deck) (air_of deck) H) (range_with_len 1 n)))) none
 

@@ -5,7 +5,7 @@ use Rattle.std.proofs.lemmas.List.FromFn.{get_or-map-range_with_len}
 use Rattle.std.specs.Prelude.{Result, Ok, Err, MatchResult, OnErr, OnOk}
 use Rattle.air_base.specs.declared.verdicts.Form.{Form}
 use Rattle.air_history.specs.declared.histories.Event.{Event}
-use Rattle.air_history.specs.Histories.{starts}
+use Rattle.air_history.specs.Histories.{starts, events_in}
 use Rattle.air_history.specs.Boards.{Board, board_of}
 use Rattle.air_model.specs.Buckets.{entry_len, most_count}
 use Rattle.air_model.specs.Decks.{Deck, IsDeck, count_editions, edition, values_in}
@@ -16,7 +16,7 @@ use Rattle.air_sender.specs.AirFaults.{FailedAt}
 use Rattle.air_sender.specs.BoardBuckets.{form_of}
 use Rattle.air_sender.proofs.AiredLemmas.{few_full}
 use Rattle.station.specs.PassStates.{PassState}
-use Rattle.cycle_snapshot.specs.Batches.{IsBatch, batch_events}
+use Rattle.cycle_snapshot.specs.Batches.{IsBatch}
 use Rattle.cycle_snapshot.specs.SnapshotStates.{PublisherState}
 use Rattle.update_commit.proofs.EventLemmas.{starts_none}
 use Rattle.air_model.specs.Batches.{AirsByBatches, EndsWithStart}
@@ -39,12 +39,12 @@ new_in_step p f b values pv ps fv fb is = record {
   values = fv ∙ sym pv;
   published = record {
     later = [];
-    begins = ps ∙ ap (λ bs. batch_events bs ++ []) (sym fb);
-    ends = inl (ap batch_events fb);
+    begins = ps ∙ ap (λ bs. events_in bs ++ []) (sym fb);
+    ends = inl (ap events_in fb);
     rest = starts_none;
     count = let a = ap length fb in let b = ap starts ps ∙ starts_none in omega arith;
   };
-  board = is ∙ (λ i. board_of (sym pv i) (batch_events (sym fb i)));
+  board = is ∙ (λ i. board_of (sym pv i) (events_in (sym fb i)));
 }
 
 -- The plans of a deck have the program of the cycle's edition in force.
@@ -53,11 +53,12 @@ own_program deck plans c are =
     ap (λ (p : Plans). planned_program p c) are ∙ ap (λ e. get_or (programs_in deck) e no_disks) (edition_of deck (plans_in deck) c refl)
     ∙ get_or-map-range_with_len (edition_disks deck) 0 (count_editions deck) (edition deck c) (edition deck c) no_disks (edition_within deck c) (omega arith)
 
--- The air of a deck is of its values, its form and its plans.
-pub own_air : (deck : Deck) (plans : Plans) (values : List ℕ) (form : Form) → plans ≡ plans_in deck → values ≡ values_in deck → form ≡ form_of (air_of deck) → IsAirOf values form plans (air_of deck)
-own_air deck plans values form are first own = record {
+-- The air of a deck is of its group, its values, its form and its plans.
+pub own_air : (deck : Deck) (group : ℕ) (plans : Plans) (values : List ℕ) (form : Form) → plans ≡ plans_in deck → values ≡ values_in deck → form ≡ form_of (air_of deck) → deck.settings.group ≡ group → IsAirOf group values form plans (air_of deck)
+own_air deck group plans values form are first own same = record {
   items = sym (ap length first ∙ values_sized deck);
   policy_is = ap (λ (f : Form). f.policy) (sym own);
+  group_is = same;
   version_is = ap (λ (f : Form). f.version) (sym own);
   edition_is = λ c. edition_is deck c ∙ ap (λ (p : EditionDisks). p.edition) (sym (own_program deck plans c are));
   slots_are = λ c. slots_are deck c ∙ sym (slots_of_cycle deck plans c are);
@@ -129,5 +130,5 @@ module _ {M : Type 0} (state : M → MastState) (deck : Deck) (p q : PassState) 
       → MatchResult r (λ _. Changes (with_buckets (bytes_aired (values_in deck) (air_of deck) q.seen)) (state before).told (state now).told) (SendsUntilFault state deck q.seen g.batches before now)
   run_aired (Ok x) h = subst (λ v. Changes (with_buckets (bytes_aired v (air_of deck) q.seen)) (state before).told (state now).told) values (all_sent p.values (air_of deck) p.seen q.seen new n (state before).told (state now).told h)
   run_aired (Err (fault.Mast sent)) h = subst (λ v. FailedAt state sent (bytes_aired v (air_of deck) q.seen) before now) values (part_sent p.values (air_of deck) p.seen q.seen new state sent before now h)
-  run_aired (Err fault.NoMemory) h = subst (λ v. Changes (with_buckets (bytes_aired v (air_of deck) (batch_events g.batches))) (state before).told (state now).told) values
-      (all_sent p.values (air_of deck) (batch_events f.batches) (batch_events g.batches) (ap batch_events none) h.0 (state before).told (state now).told h.2)
+  run_aired (Err fault.NoMemory) h = subst (λ v. Changes (with_buckets (bytes_aired v (air_of deck) (events_in g.batches))) (state before).told (state now).told) values
+      (all_sent p.values (air_of deck) (events_in f.batches) (events_in g.batches) (ap events_in none) h.0 (state before).told (state now).told h.2)

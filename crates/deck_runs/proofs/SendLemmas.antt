@@ -7,7 +7,7 @@ use Rattle.std.proofs.lemmas.List.Sums.{sum_by-cons}
 use Rattle.std.proofs.lemmas.Option.{get_or_from_slice_get}
 use Rattle.air_history.specs.declared.histories.Event.{Event}
 use Rattle.air_history.specs.declared.histories.Event.TheVariants.{Commit, Start}
-use Rattle.air_history.specs.Histories.{is_start, starts}
+use Rattle.air_history.specs.Histories.{is_start, starts, events_in}
 use Rattle.air_model.specs.Buckets.{spelling}
 use Rattle.air_model.specs.Aired.{Air, bucket_of, buckets_of, cycle_buckets, slots_at}
 use Rattle.air_model.specs.Programs.{program}
@@ -19,11 +19,11 @@ use Rattle.air_sender.specs.declared.airing.AirFault.TheVariants as fault
 use Rattle.air_sender.specs.BoardBuckets.{last_bytes, last_cycle_buckets}
 use Rattle.air_sender.proofs.GrowLemmas.{grow}
 use Rattle.air_sender.proofs.SendLemmas.{sent_none}
-use Rattle.cycle_snapshot.specs.Batches.{IsBatch, batch_events}
+use Rattle.cycle_snapshot.specs.Batches.{IsBatch}
 use Rattle.cycle_snapshot.proofs.BatchLemmas.{events_more}
 use Rattle.air_base.specs.declared.verdicts.Form.{Form}
 use Rattle.air_history.specs.Boards.{Board, board_of}
-use Rattle.air_sender.specs.BoardBuckets.{IsLastBoard, board_bytes}
+use Rattle.air_sender.specs.BoardBuckets.{IsLastBoard, aired_board, board_bytes}
 use Rattle.air_sender.proofs.SendLemmas.{length_cycle}
 use Rattle.chunk_program.specs.Editions.{EditionDisks, Plans, no_disks, planned_edition}
 use Rattle.station.specs.PassStates.{PassState}
@@ -54,18 +54,18 @@ start_buckets values air G = grow values air G Start
 
 -- The list before the start of a batch that comes after the others.
 abbrev pub beginning_of : (n : ℕ) (bs : List (List Event)) (batch : List Event) → IsBatch n batch → List Event
-beginning_of n bs batch is = batch_events bs ++ is.ends.0
+beginning_of n bs batch is = events_in bs ++ is.ends.0
 
-pub beginning_starts : (n : ℕ) (bs : List (List Event)) (batch : List Event) (is : IsBatch n batch) → batch_events (bs ++ batch ∷ []) ≡ beginning_of n bs batch is ++ Start ∷ []
-beginning_starts n bs batch is = events_more bs batch ∙ ap (λ l. batch_events bs ++ l) is.ends.1 ∙ sym (append_assoc (batch_events bs) is.ends.0 (Start ∷ []))
+pub beginning_starts : (n : ℕ) (bs : List (List Event)) (batch : List Event) (is : IsBatch n batch) → events_in (bs ++ batch ∷ []) ≡ beginning_of n bs batch is ++ Start ∷ []
+beginning_starts n bs batch is = events_more bs batch ∙ ap (λ l. events_in bs ++ l) is.ends.1 ∙ sym (append_assoc (events_in bs) is.ends.0 (Start ∷ []))
 
 -- One batch more airs its cycle.
 pub batch_bytes : (values : List ℕ) (air : Air) (n : ℕ) (bs : List (List Event)) (batch : List Event) (is : IsBatch n batch) →
-    bytes_aired values air (batch_events (bs ++ batch ∷ [])) ≡ bytes_aired values air (batch_events bs) ++ last_bytes values air (beginning_of n bs batch is)
+    bytes_aired values air (events_in (bs ++ batch ∷ [])) ≡ bytes_aired values air (events_in bs) ++ last_bytes values air (beginning_of n bs batch is)
 batch_bytes values air n bs batch is =
     let G = beginning_of n bs batch is in
-    ap (bytes_aired values air) (beginning_starts n bs batch is) ∙ ap (map spelling) (start_buckets values air G ∙ ap (λ l. l ++ last_cycle_buckets values air (G ++ Start ∷ [])) (quiet_buckets values air (batch_events bs) is.ends.0 is.ends.2))
-    ∙ map-append spelling (buckets_of values air (batch_events bs)) (last_cycle_buckets values air (G ++ Start ∷ []))
+    ap (bytes_aired values air) (beginning_starts n bs batch is) ∙ ap (map spelling) (start_buckets values air G ∙ ap (λ l. l ++ last_cycle_buckets values air (G ++ Start ∷ [])) (quiet_buckets values air (events_in bs) is.ends.0 is.ends.2))
+    ∙ map-append spelling (buckets_of values air (events_in bs)) (last_cycle_buckets values air (G ++ Start ∷ []))
 
 pub length_last : (values : List ℕ) (air : Air) (G : List Event) → length (last_bytes values air G) ≡ length (slots_at air (starts (G ++ Start ∷ [])))
 length_last values air G =
@@ -73,12 +73,12 @@ length_last values air G =
     length-map (last_cycle_buckets values air (G ++ Start ∷ [])) spelling ∙ length-map-range_with_len (bucket_of values air (G ++ Start ∷ []) air.version c) 0 (length (slots_at air c))
 
 -- What is published airs all that was seen, if all starts are published.
-pub seen_bytes : (values : List ℕ) (air : Air) (seen : List Event) (bs : List (List Event)) → IsUpTo 0 seen bs → bytes_aired values air seen ≡ bytes_aired values air (batch_events bs)
-seen_bytes values air seen bs up = ap (bytes_aired values air) up.begins ∙ ap (map spelling) (quiet_buckets values air (batch_events bs) up.later up.rest)
+pub seen_bytes : (values : List ℕ) (air : Air) (seen : List Event) (bs : List (List Event)) → IsUpTo 0 seen bs → bytes_aired values air seen ≡ bytes_aired values air (events_in bs)
+seen_bytes values air seen bs up = ap (bytes_aired values air) up.begins ∙ ap (map spelling) (quiet_buckets values air (events_in bs) up.later up.rest)
 
 -- What is published starts as many cycles.
-pub seen_starts : (seen : List Event) (bs : List (List Event)) → IsUpTo 0 seen bs → starts seen ≡ starts (batch_events bs)
-seen_starts seen bs up = let none = up.rest in let both = ap starts up.begins ∙ starts_append (batch_events bs) up.later in omega arith
+pub seen_starts : (seen : List Event) (bs : List (List Event)) → IsUpTo 0 seen bs → starts seen ≡ starts (events_in bs)
+seen_starts seen bs up = let none = up.rest in let both = ap starts up.begins ∙ starts_append (events_in bs) up.later in omega arith
 
 -- ---- how many
 
@@ -170,18 +170,18 @@ module _ (values : List ℕ) (air : Air) where
 
   -- After whole cycles of n buckets, the fault of a cycle ends the job.
   pub ends_by : {M : Type 0} (state : M → MastState) (fault : ConductFault) (k cycles n : ℕ) → k < cycles → (p q : PassState) (f g h : PublisherState) (o m r : M)
-      → SendsCounted values air k n (batch_events f.batches) (batch_events g.batches) (state o).told (state m).told → (state m).faults ≡ (state o).faults → (state m).port ≡ (state o).port → IsUpTo 0 p.seen f.batches → IsPublishedUpTo q.seen h.batches fault
-      → SendsInCycle state values air n (batch_events g.batches) (batch_events h.batches) m r fault → SendsUpTo state values air cycles p q f h o r fault
+      → SendsCounted values air k n (events_in f.batches) (events_in g.batches) (state o).told (state m).told → (state m).faults ≡ (state o).faults → (state m).port ≡ (state o).port → IsUpTo 0 p.seen f.batches → IsPublishedUpTo q.seen h.batches fault
+      → SendsInCycle state values air n (events_in g.batches) (events_in h.batches) m r fault → SendsUpTo state values air cycles p q f h o r fault
   ends_by state (conduct.Mast sent) k cycles n less p q f g h o m r before calm port first now (s, is, failed) =
-      let all = fails_further state k s n (batch_events f.batches) (batch_events g.batches) (batch_events h.batches) o m r before calm port failed in
+      let all = fails_further state k s n (events_in f.batches) (events_in g.batches) (events_in h.batches) o m r before calm port failed in
       subst (λ n. FailsAfter state values air n p.seen q.seen o r) (sym is)
-      (fails_as state _ (batch_events f.batches) (batch_events h.batches) p.seen q.seen o r (seen_bytes values air p.seen f.batches first) (seen_bytes values air q.seen h.batches now) all)
+      (fails_as state _ (events_in f.batches) (events_in h.batches) p.seen q.seen o r (seen_bytes values air p.seen f.batches first) (seen_bytes values air q.seen h.batches now) all)
   ends_by state conduct.NoMemory k cycles n less p q f g h o m r before calm port first now none =
       let same : k + 0 ≡ k = omega arith in (
         k,
         less,
-        subst (λ n. SendsCycles values air n (batch_events f.batches) (batch_events h.batches) (state o).told (state r).told) same
-            (sends_further k 0 (batch_events f.batches) (batch_events g.batches) (batch_events h.batches) _ _ _ before.sends none),
+        subst (λ n. SendsCycles values air n (events_in f.batches) (events_in h.batches) (state o).told (state r).told) same
+            (sends_further k 0 (events_in f.batches) (events_in g.batches) (events_in h.batches) _ _ _ before.sends none),
       )
 
 -- ---- one cycle
@@ -194,17 +194,18 @@ module _ (p q : PassState) (f g : PublisherState) (b : Board) (on : GoesOn p q) 
   batches : g.batches ≡ f.batches ++ adds.0 ∷ []
   batches = ap (λ x. x.batches) adds.1
 
-  pub ends : batch_events g.batches ≡ beginning ++ Start ∷ []
-  ends = ap batch_events batches ∙ beginning_starts (length f.values) f.batches adds.0 adds.2
+  pub ends : events_in g.batches ≡ beginning ++ Start ∷ []
+  ends = ap events_in batches ∙ beginning_starts (length f.values) f.batches adds.0 adds.2
 
   pub last : b ≡ board_of p.values (beginning ++ Start ∷ [])
-  last = step.board ∙ ap (λ (x : PassState). board_of x.values (batch_events g.batches)) on.same ∙ ap (board_of p.values) ends
+  last = step.board ∙ ap (λ (x : PassState). board_of x.values (events_in g.batches)) on.same ∙ ap (board_of p.values) ends
 
   pub started : 1 ≤ b.cycle
   started = let c = ap (λ x. x.cycle) last in let a = starts_append beginning (Start ∷ []) in let one = starts_one in omega arith
 
-  -- the plans have this program in force in the board's cycle
-  module _ (air : Air) (form : Form) (plans : Plans) (own : EditionDisks) (is : IsAirOf p.values form plans air) (at : slice_get plans.programs (planned_edition plans b.cycle) ≡ Some own) where
+  -- the plans have this program in force in the board's cycle, which is aired from this source
+  module _ (air : Air) (group : ℕ) (form : Form) (plans : Plans) (own : EditionDisks) (is : IsAirOf group p.values form plans air) (at : slice_get plans.programs (planned_edition plans b.cycle) ≡ Some own)
+      (source : Board) (from : source ≡ aired_board air.scheme b) where
     in_force : planned_program plans (starts (beginning ++ Start ∷ [])) ≡ own
     in_force =
         let now : b.cycle ≡ starts (beginning ++ Start ∷ []) = ap (λ x. x.cycle) last in
@@ -213,9 +214,9 @@ module _ (p q : PassState) (f g : PublisherState) (b : Board) (on : GoesOn p q) 
     own_slots : slots_at air (starts (beginning ++ Start ∷ [])) ≡ program own.disks
     own_slots = is.slots_are (starts (beginning ++ Start ∷ [])) ∙ ap (λ (x : EditionDisks). program x.disks) in_force
 
-    pub last_board : IsLastBoard p.values air beginning form own.edition (program own.disks) b
+    pub last_board : IsLastBoard p.values air beginning form own.edition (program own.disks) source
     last_board = record {
-      board = last;
+      board = from ∙ ap (aired_board air.scheme) last;
       items = is.items;
       policy = is.policy_is;
       version = is.version_is;
@@ -223,16 +224,16 @@ module _ (p q : PassState) (f g : PublisherState) (b : Board) (on : GoesOn p q) 
       slots = own_slots;
     }
 
-    bytes : bytes_aired p.values air (batch_events g.batches) ≡ bytes_aired p.values air (batch_events f.batches) ++ last_bytes p.values air beginning
-    bytes = ap (λ bs. bytes_aired p.values air (batch_events bs)) batches ∙ batch_bytes p.values air (length f.values) f.batches adds.0 adds.2
+    bytes : bytes_aired p.values air (events_in g.batches) ≡ bytes_aired p.values air (events_in f.batches) ++ last_bytes p.values air beginning
+    bytes = ap (λ bs. bytes_aired p.values air (events_in bs)) batches ∙ batch_bytes p.values air (length f.values) f.batches adds.0 adds.2
 
     -- all of its buckets were sent
-    pub cycle_sent : (n : ℕ) (o q : Option SentBuckets) → n ≡ length (program own.disks) → Changes (with_buckets (last_bytes p.values air beginning)) o q → SendsCounted p.values air 1 n (batch_events f.batches) (batch_events g.batches) o q
+    pub cycle_sent : (n : ℕ) (o q : Option SentBuckets) → n ≡ length (program own.disks) → Changes (with_buckets (last_bytes p.values air beginning)) o q → SendsCounted p.values air 1 n (events_in f.batches) (events_in g.batches) o q
     cycle_sent n o q count sent = record {
       sends = record {
         more = last_bytes p.values air beginning;
         aired = bytes;
-        started = (let all = ap starts ends ∙ starts_append beginning (Start ∷ []) in let before = starts_append (batch_events f.batches) adds.2.ends.0 in let none = adds.2.ends.2 in let one = starts_one in omega arith);
+        started = (let all = ap starts ends ∙ starts_append beginning (Start ∷ []) in let before = starts_append (events_in f.batches) adds.2.ends.0 in let none = adds.2.ends.2 in let one = starts_one in omega arith);
         sent = sent;
       };
       counted = length_last p.values air beginning ∙ ap length own_slots ∙ sym count;
@@ -240,12 +241,12 @@ module _ (p q : PassState) (f g : PublisherState) (b : Board) (on : GoesOn p q) 
 
     -- or those before the one at which the mast failed
     pub cycle_failed : {M : Type 0} (state : M → MastState) (slot : ℕ) (before now : M) → Changes (with_buckets (take slot (last_bytes p.values air beginning))) (state before).told (state now).told
-        → FailedAt state slot (board_bytes form own.edition (program own.disks) b) before now → FailsAfter state p.values air slot (batch_events f.batches) (batch_events g.batches) before now
+        → FailedAt state slot (board_bytes form own.edition (program own.disks) source) before now → FailsAfter state p.values air slot (events_in f.batches) (events_in g.batches) before now
     cycle_failed state slot before now sent failed = record {
       more = last_bytes p.values air beginning;
       aired = bytes;
       failed = record {
-        within = let w = failed.within in let n = length_cycle form own.edition (program own.disks) b in let m = length_last p.values air beginning in let s = ap length own_slots in omega arith;
+        within = let w = failed.within in let n = length_cycle form own.edition (program own.disks) source in let m = length_last p.values air beginning in let s = ap length own_slots in omega arith;
         just_before = failed.just_before;
         sent = subst (Changes (with_buckets (take slot (last_bytes p.values air beginning))) (state before).told) failed.kept sent;
         calm = failed.calm;
@@ -256,9 +257,9 @@ module _ (p q : PassState) (f g : PublisherState) (b : Board) (on : GoesOn p q) 
     }
 
     pub cycle_failed_by : {M : Type 0} (state : M → MastState) (e : AirFault) (n : ℕ) (before now : M) → n ≡ failed_slot e → Changes (with_buckets (take (failed_slot e) (last_bytes p.values air beginning))) (state before).told (state now).told
-        → IsAirAnswer state (board_bytes form own.edition (program own.disks) b) before now e → FailsAfter state p.values air n (batch_events f.batches) (batch_events g.batches) before now
+        → IsAirAnswer state (board_bytes form own.edition (program own.disks) source) before now e → FailsAfter state p.values air n (events_in f.batches) (events_in g.batches) before now
     cycle_failed_by state (fault.Mast slot) n before now is sent failed =
-        subst (λ m. FailsAfter state p.values air m (batch_events f.batches) (batch_events g.batches) before now) (sym is) (cycle_failed state slot before now sent failed)
+        subst (λ m. FailsAfter state p.values air m (events_in f.batches) (events_in g.batches) before now) (sym is) (cycle_failed state slot before now sent failed)
 
 pub within_cycle : {M : Type 0} (state : M → MastState) (form : Form) (edition : ℕ) (slots : List (Option ℕ)) (b : Board) (e : AirFault) (n : ℕ) (before now : M) → n ≡ failed_slot e → IsAirAnswer state (board_bytes form edition slots b) before now e → n < length slots
 within_cycle state form edition slots b (fault.Mast slot) n before now is failed = let w = failed.within in let l = length_cycle form edition slots b in omega arith

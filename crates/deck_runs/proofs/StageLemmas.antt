@@ -15,7 +15,7 @@ use Rattle.bucket_codec.specs.declared.offsets.TheConstants.{HEAD_BYTES}
 use Rattle.station.specs.PassStates.{PassState, new_pass, numbers_of, with_seen}
 use Rattle.deck_runs.specs.declared.jobs.crews.ConductorRun.{ConductorRun}
 use Rattle.deck_runs.specs.declared.jobs.crews.UpdaterRun.{UpdaterRun}
-use Rattle.deck_runs.specs.Private.Crews.{CanConduct, EachDone, HasMadeUpdates, HasNewPass, passes_of}
+use Rattle.deck_runs.specs.Private.Crews.{CanConduct, EachDone, HasGroups, HasMadeUpdates, HasNewPass, passes_of}
 use Rattle.deck_runs.specs.PublishedBatches.{GoesOn}
 use Rattle.deck_runs.specs.Private.StageSteps.{AreNewUpdaters, HasEndedUpdates, HaveEnded, IsPlayed, IsUnplayed}
 use Rattle.deck_runs.specs.declared.threads.stages.Stage.{Stage}
@@ -89,8 +89,8 @@ new_updaters station deck runs ps same count each = record {
 
 -- The conductor of such parts.
 pub can_conduct : (deck : Deck) (at : TurnstileId) (run : ConductorRun) (station : TurnstileId) (pass : PassState) → at ≡ station → run.pass ≡ pass → pass ≡ new_pass station deck (length deck.updates)
-    → run.board ≡ board_of (values_in deck) [] → HEAD_BYTES + entry_len deck.settings.version * length deck.items ≤ length run.buf.items → CanConduct at deck run
-can_conduct deck at run station pass same is new board buffer = record { pass = is ∙ new ∙ ap (λ t. new_pass t deck (length deck.updates)) (sym same); board = board; buffer = buffer }
+    → run.board ≡ board_of (values_in deck) [] → HEAD_BYTES + entry_len deck.settings.version * length deck.items ≤ length run.buf.items → HasGroups deck run.groups → CanConduct at deck run
+can_conduct deck at run station pass same is new board buffer groups = record { pass = is ∙ new ∙ ap (λ t. new_pass t deck (length deck.updates)) (sym same); board = board; buffer = buffer; groups = groups }
 
 -- A stage after the jobs.
 pub is_played : (s t : Stage) → IsUnplayed s → GoesOn s.conductor.pass t.conductor.pass → starts t.conductor.pass.seen ≤ s.planned.now.settings.cycles → EachDone s.planned.now s.updaters.items t.updaters.items → t.planned ≡ s.planned → t.station ≡ s.station → t.passes ≡ s.passes → IsPlayed t

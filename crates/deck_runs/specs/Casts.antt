@@ -4,7 +4,7 @@ use Rattle.air_history.specs.declared.histories.Event.{Event}
 use Rattle.air_model.specs.Decks.{Deck, IsWhole}
 use Rattle.air_devices.specs.Counts.{Rose}
 use Rattle.air_devices.specs.Masts.{Changes, MastState, SentBuckets}
-use Rattle.deck_runs.specs.DeckBytes.{deck_bytes}
+use Rattle.air_sender.specs.AiredBytes.{aired_bytes}
 use Rattle.deck_runs.specs.declared.threads.RunFault.{RunFault}
 use Rattle.deck_runs.specs.declared.threads.RunFault.TheVariants as fault
 
@@ -20,8 +20,8 @@ first_sent count buckets = record { buckets = take count buckets; ended = None }
 pub record IsCastBeginning (deck : Deck) (count : ℕ) (before now : Option SentBuckets) : Type 0 where
   pub history : List Event
   pub whole : IsWhole deck history
-  pub within : count ≤ length (deck_bytes deck history)
-  pub sent : Changes (λ _. first_sent count (deck_bytes deck history)) before now
+  pub within : count ≤ length (aired_bytes deck history)
+  pub sent : Changes (λ _. first_sent count (aired_bytes deck history)) before now
 
 -- What the fault of a cast says of the mast: it failed after `sent` buckets; out of memory, none of its calls failed.
 abbrev pub IsCastAnswer : Deck → MastState → MastState → RunFault → Type 0

@@ -3,7 +3,6 @@ pub mod PublishedBatches
 pub mod Looks
 pub mod Sendings
 pub mod Private
-pub mod DeckBytes
 pub mod RunAnswers
 pub mod Casts
 pub mod RunTapes

@@ -5,7 +5,8 @@ use Rattle.air_history.specs.declared.histories.Event.{Event}
 use Rattle.air_history.specs.Boards.{frame_of}
 use Rattle.air_model.specs.declared.reports.LookLine.{LookLine}
 use Rattle.air_model.specs.MonitorSights.{EndsAtStart}
-use Rattle.cycle_snapshot.specs.Batches.{IsBatch, batch_events}
+use Rattle.air_history.specs.Histories.{events_in}
+use Rattle.cycle_snapshot.specs.Batches.{IsBatch}
 use Rattle.cycle_snapshot.specs.SnapshotStates.{MonitorState}
 
 -- A monitor m looked `times` times and is then n. If it looked, it has seen whole batches, at most `most` of them, which continue all that it saw or
@@ -15,7 +16,7 @@ pub record LookedTimes (times : ℕ) (m n : MonitorState) : Type 0 where
   pub told : 0 < times → IsPrefix m.told n.seen
   pub batches : 0 < times → All (IsBatch (length m.values)) n.seen
   pub few : 0 < times → length n.seen ≤ m.most
-  pub kept : 0 < times → n.kept ≡ frame_of m.values (batch_events n.seen)
+  pub kept : 0 < times → n.kept ≡ frame_of m.values (events_in n.seen)
   pub looks : n.looks ≡ min (m.looks + times) (2 ^ 64 - 1)
   pub same : n ≡ record m { seen = n.seen; kept = n.kept; looks = n.looks }
 

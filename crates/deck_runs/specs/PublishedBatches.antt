@@ -2,11 +2,11 @@
 use Rattle.std.specs.Prelude.{◌≡◌, ◌⊎◌, ℕ, ◌+◌, List, ◌++◌, length, All}
 use mathlib.Core.List.{IsPrefix}
 use Rattle.air_history.specs.declared.histories.Event.{Event}
-use Rattle.air_history.specs.Histories.{starts}
+use Rattle.air_history.specs.Histories.{starts, events_in}
 use Rattle.air_history.specs.Boards.{Board, board_of}
 use Rattle.air_model.specs.MonitorSights.{EndsAtStart}
 use Rattle.station.specs.PassStates.{PassState, with_seen}
-use Rattle.cycle_snapshot.specs.Batches.{IsBatch, batch_events}
+use Rattle.cycle_snapshot.specs.Batches.{IsBatch}
 use Rattle.cycle_snapshot.specs.SnapshotStates.{PublisherState}
 use Rattle.deck_runs.specs.declared.jobs.conductors.ConductFault.{ConductFault}
 use Rattle.deck_runs.specs.declared.jobs.conductors.ConductFault.TheVariants as fault
@@ -14,8 +14,8 @@ use Rattle.deck_runs.specs.declared.jobs.conductors.ConductFault.TheVariants as 
 -- The batches are what was seen up to and including a start, or nothing; after them `behind` starts were seen.
 pub record IsUpTo (behind : ℕ) (seen : List Event) (batches : List (List Event)) : Type 0 where
   pub later : List Event
-  pub begins : seen ≡ batch_events batches ++ later
-  pub ends : EndsAtStart (batch_events batches)
+  pub begins : seen ≡ events_in batches ++ later
+  pub ends : EndsAtStart (events_in batches)
   pub rest : starts later ≡ behind
   pub count : length batches + behind ≡ starts seen
 
@@ -23,7 +23,7 @@ pub record IsUpTo (behind : ℕ) (seen : List Event) (batches : List (List Event
 pub record AreInStep (p : PassState) (f : PublisherState) (b : Board) : Type 0 where
   pub values : f.values ≡ p.values
   pub published : IsUpTo 0 p.seen f.batches
-  pub board : b ≡ board_of p.values (batch_events f.batches)
+  pub board : b ≡ board_of p.values (events_in f.batches)
 
 -- The board is that of what the pass has seen up to and including its last start, or of nothing.
 pub record IsBoardOf (p : PassState) (b : Board) : Type 0 where

@@ -6,7 +6,7 @@ use Rattle.air_devices.specs.Masts.{Changes, MastState, with_buckets}
 use Rattle.air_sender.specs.AirFaults.{FailedAt}
 use Rattle.deck_runs.specs.declared.jobs.conductors.ConductFault.{ConductFault}
 use Rattle.deck_runs.specs.declared.jobs.conductors.ConductFault.TheVariants as conduct
-use Rattle.deck_runs.specs.DeckBytes.{deck_bytes}
+use Rattle.air_sender.specs.AiredBytes.{aired_bytes}
 use Rattle.deck_runs.specs.declared.threads.RunFault.{RunFault}
 use Rattle.deck_runs.specs.declared.threads.RunFault.TheVariants as fault
 
@@ -19,15 +19,15 @@ run_fault conduct.NoMemory = fault.NoMemory
 pub record FailsInRun {M : Type 0} (state : M → MastState) (deck : Deck) (sent : ℕ) (before now : M) : Type 0 where
   pub history : List Event
   pub whole : IsWhole deck history
-  pub failed : FailedAt state sent (deck_bytes deck history) before now
+  pub failed : FailedAt state sent (aired_bytes deck history) before now
 
 -- The first buckets of a whole history were sent, maybe none, and no call of the mast failed.
 pub record SendsFirst {M : Type 0} (state : M → MastState) (deck : Deck) (before now : M) : Type 0 where
   pub history : List Event
   pub whole : IsWhole deck history
   pub count : ℕ
-  pub within : count ≤ length (deck_bytes deck history)
-  pub sent : Changes (with_buckets (take count (deck_bytes deck history))) (state before).told (state now).told
+  pub within : count ≤ length (aired_bytes deck history)
+  pub sent : Changes (with_buckets (take count (aired_bytes deck history))) (state before).told (state now).told
   pub calm : (state now).faults ≡ (state before).faults
 
 -- What the fault of a run says of the mast.

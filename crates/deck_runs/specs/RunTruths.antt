@@ -16,8 +16,8 @@ abbrev pub TellsHistory : Deck → List Event → List ℕ → Type 0
 TellsHistory deck H text = (report : Report) → IsLegal deck report.history → report_text report ≡ text → report.history ≡ H
 
 -- In the history of a run each base is read. In each of its cycles each item is aired as often as its disk says, and with the history's value. The
--- session of each reader, over its own ether of the tape, is true of the history: it is what the history decides, and under F-Matrix each verdict is
--- exact. What the run prints determines the history.
+-- session of each reader, over its own ether of the tape, is true of the history: it is what the history decides, and under F-Matrix without groups
+-- each verdict is exact. What the run prints determines the history.
 pub record IsTrueRun (deck : Deck) (run : Run) : Type 0 where
   pub bases : All BasesRead run.history
   pub items : AirsItems deck run.history (buckets_of (values_in deck) (air_of deck) run.history)

@@ -6,7 +6,7 @@ ghost use Rattle.air_devices.specs.Masts.{Changes, nothing_sent, with_end};
 ghost use Rattle.air_devices.specs.WhatIsTold.{WhereTold};
 ghost use Rattle.air_model.specs.Batches.{AirsByBatches};
 ghost use Rattle.air_model.specs.Runs.{IsRun};
-ghost use Rattle.deck_runs.specs.DeckBytes.{deck_bytes};
+ghost use Rattle.air_sender.specs.AiredBytes.{aired_bytes};
 ghost use Rattle.deck_runs.specs.Casts.{IsCastAnswer, all_sent};
 ghost use Rattle.deck_runs.specs.Private.CastSteps.{bucket_count};
 
@@ -60,7 +60,7 @@ pub fn cast_run<R: Threads + Wait + Sync, M: Mast + Send, G: Gate + Sync>(
     requires unsent { WhereTold (M.state mast.old).told (λ s. s ≡ nothing_sent) }
     ensures run { IfOk result (IsRun planned.now) }
     ensures batches { IfOk result (λ run. AirsByBatches planned.now run.history run.batches) }
-    ensures sent { IfOk result (λ run. Changes (λ _. all_sent (deck_bytes planned.now run.history)) (M.state mast.old).told (M.state mast.new).told) }
+    ensures sent { IfOk result (λ run. Changes (λ _. all_sent (aired_bytes planned.now run.history)) (M.state mast.old).told (M.state mast.new).told) }
     ensures calm { OnOk result ((M.state mast.new).faults ≡ (M.state mast.old).faults) }
     ensures fault { IfErr result (IsCastAnswer planned.now (M.state mast.old) (M.state mast.new)) }
     ensures port { (M.state mast.new).port ≡ Some port }

@@ -13,7 +13,7 @@ mod tapes;
 mod threads;
 
 pub use casts::cast_run;
-pub use jobs::conductors::{ConductFault, conductor_job};
+pub use jobs::conductors::{ConductFault, conductor_job, group_conductor_job};
 pub use jobs::monitors::{last_look, monitor_job};
 pub use jobs::updaters::updater_job;
 pub use laws::true_run_law;

@@ -4,7 +4,7 @@ ghost use Rattle.std.specs.Prelude.{◌≡◌, IfErr, IfOk, OnOk};
 ghost use Rattle.air_model.specs.Batches.{AirsByBatches};
 ghost use Rattle.air_devices.specs.Masts.{Changes, with_buckets};
 ghost use Rattle.air_model.specs.Runs.{IsRun};
-ghost use Rattle.deck_runs.specs.DeckBytes.{deck_bytes};
+ghost use Rattle.air_sender.specs.AiredBytes.{aired_bytes};
 ghost use Rattle.deck_runs.specs.RunAnswers.{IsRunAnswer};
 
 pub(crate) mod sights;
@@ -103,7 +103,7 @@ pub fn run_threads<R: Threads + Wait + Sync, M: Mast + Send, G: Gate + Sync>(
 ) -> Result<Run, RunFault>
     ensures run { IfOk result (IsRun planned.now) }
     ensures batches { IfOk result (λ run. AirsByBatches planned.now run.history run.batches) }
-    ensures aired { IfOk result (λ run. Changes (with_buckets (deck_bytes planned.now run.history)) (M.state mast.old).told (M.state mast.new).told) }
+    ensures aired { IfOk result (λ run. Changes (with_buckets (aired_bytes planned.now run.history)) (M.state mast.old).told (M.state mast.new).told) }
     ensures calm { OnOk result ((M.state mast.new).faults ≡ (M.state mast.old).faults) }
     ensures fault { IfErr result (IsRunAnswer M.state planned.now mast.old mast.new) }
     ensures port { (M.state mast.new).port ≡ (M.state mast.old).port }

@@ -7,7 +7,11 @@ use std::alloc::{AllocError, Global};
 pub const MEETING: &[u8] =
     b"item,0,10,2\nitem,1,20,1\ndisk,2,1\nreader,0,0,1\nquery,0,0 1\nupdate,0,,0=11\nupdate,0,0,1=0+5\nset,cycles,3\nset,monitors,1\n";
 
-/// The same with nothing to update, two cycles and two monitors: what is aired doesn't depend on the schedule.
+/// The same by groups of two items.
+pub const MEETING_BY_TWOS: &[u8] =
+    b"item,0,10,2\nitem,1,20,1\ndisk,2,1\nreader,0,0,1\nquery,0,0 1\nupdate,0,,0=11\nupdate,0,0,1=0+5\nset,cycles,3\nset,monitors,1\nset,group,2\n";
+
+/// `MEETING` with nothing to update, two cycles and two monitors: what is aired doesn't depend on the schedule.
 pub const QUIET: &[u8] =
     b"item,0,10,2\nitem,1,20,1\ndisk,2,1\nreader,0,0,1\nquery,0,0 1\nset,cycles,2\nset,monitors,2\n";
 

@@ -43,22 +43,11 @@ struct JobsEnd {
 
 /// The conductor: its pass, its board, its publisher, its mast, and room for the bytes of a bucket.
 #[derive(Drop)]
-struct Conductor {
-    pass: ConductorPass,
-    board: Board,
-    mast: MemMast,
-    buf: Vec<u8>,
-}
-
-/// The first value of each item.
-fn first_values(alloc: Global, deck: &Deck) -> Result<Vec<u64>, NoMemory>
-    ensures { IfOk result (λ values. values.items ≡ values_in deck.now) }
-{
-    let mut values = Vec::new(alloc);
-    for item in 0..deck.items() {
-        values.push(deck.value(item))?;
-    }
-    Ok(values)
+pub struct Conductor {
+    pub pass: ConductorPass,
+    pub board: Board,
+    pub mast: MemMast,
+    pub buf: Vec<u8>,
 }
 
 /// Does the job of an updater that has made no commit.
@@ -156,7 +145,7 @@ fn work<R: Wait>(
 }
 
 /// A conductor of the pass, with the board of the first values, and a mast with room for this number of bytes.
-fn new_conductor(
+pub fn new_conductor(
     alloc: Global,
     deck: &Deck,
     values: &[u64],
@@ -188,7 +177,7 @@ fn left_by_jobs<R: Wait>(
 {
     let deck = read_deck(alloc, text)?;
     let plans = Plans::plan(alloc, &deck)?;
-    let values = first_values(alloc, &deck)?;
+    let values = deck.values(alloc)?;
     let (station, mut passes, pass) = Station::new(alloc, &deck)?;
     let Some(mut updater) = passes.pop() else {
         return Ok(None);

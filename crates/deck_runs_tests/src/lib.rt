@@ -1,5 +1,5 @@
 //! Tests of runs: small decks on threads under any schedule, one in which a gate lets three threads meet, a monitor's last look, and each job by
-//! itself (`jobs`, with its board in `boards`).
+//! itself (`jobs`, with its board in `boards`, and `group_jobs`).
 //!
 //! `decks` has the decks that are run, `plays` runs them, and `cases` finds what a run left otherwise than expected (`runs`, `meetings`).
 #![tactic(auto)]
@@ -10,6 +10,8 @@ mod boards;
 mod cases;
 #[cfg(test)]
 mod decks;
+#[cfg(test)]
+mod group_jobs;
 #[cfg(test)]
 mod jobs;
 #[cfg(test)]

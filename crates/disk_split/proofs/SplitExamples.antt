@@ -27,7 +27,7 @@ deck_of rates disks = record {
   readers = [];
   queries = [];
   script = [];
-  settings = record { policy = FMatrix; version = 1; cycles = 10; seed = 0; loss = 0; again = 0; late = 0; monitors = 0; hears = 1000000 };
+  settings = record { policy = FMatrix; version = 1; group = 0; cycles = 10; seed = 0; loss = 0; again = 0; late = 0; monitors = 0; hears = 1000000 };
 }
 
 -- A disk of this size and this frequency.

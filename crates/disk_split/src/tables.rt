@@ -1,6 +1,6 @@
 //! The tables of least weights: one for the disks from each one on.
 //!
-//! A table has a row for each place from which these disks take the items, and in it a cell for each number of slots of a minor
+//! A table has a table row for each place from which these disks take the items, and in it a cell for each number of slots of a minor
 //! cycle: the least weight of all sizes with that number, or none.
 
 ghost use Rattle.std.specs.Prelude.{◌≡◌, ◌<◌, ℕ, ◌+◌, ◌^◌, [], ◌∷◌, Some, None, IfOk, drop, if◌then◌else◌, length, slice_index_or};
@@ -11,7 +11,7 @@ use crate::lengths::chunk_slots;
 use std::alloc::{AllocError, Global};
 use std::marker::Model;
 
-/// The cells of a row.
+/// The cells of a table row.
 #[derive(Drop)]
 pub struct TableRow {
     pub cells: Vec<Option<u64>>,
@@ -38,7 +38,7 @@ impl TableRow {
     }
 }
 
-/// The rows of a table.
+/// The table rows of a table.
 #[derive(Drop)]
 pub struct Table {
     pub rows: Vec<TableRow>,
@@ -76,7 +76,7 @@ fn improve(cells: &mut [Option<u64>], next: &[Option<u64>], chunk: usize, more: 
     }
 }
 
-/// The row of a place for the disks of these chunks, from the table of the disks after the first.
+/// The table row of a place for the disks of these chunks, from the table of the disks after the first.
 fn row_from(
     alloc: Global,
     chunks: &[u64],
@@ -123,7 +123,7 @@ fn table_from(
     Ok(Table { rows })
 }
 
-/// The row of a place for no disk: only after the last item nothing is left to take, in no slots and with no weight.
+/// The table row of a place for no disk: only after the last item nothing is left to take, in no slots and with no weight.
 fn last_row(alloc: Global, is_end: bool) -> Result<TableRow, AllocError>
     ensures { IfOk result (λ row. row ≡ (if is_end then Some 0 ∷ [] else [])) }
 {

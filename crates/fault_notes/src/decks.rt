@@ -65,7 +65,7 @@ fn note_parts<'a>(found: &'a FoundRecord, kind: u8) -> Option<(Sentence<'a>, Sen
     let nobody = Sentence::numbers("", 0, 0, 0);
     match found.kind {
         Kind::Record => {}
-        Kind::End => return Some((nobody, end_note(before))),
+        Kind::End => return Some((nobody, end_note(before, kind))),
         Kind::Nothing => return None,
     }
     let Some(known) = deck_form(record.field(0)) else {

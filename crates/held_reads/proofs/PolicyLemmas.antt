@@ -14,7 +14,7 @@ use Rattle.air_history.specs.Clashes.{HeardRead, read_at, is_late, clash_by_hist
 use Rattle.air_history.specs.ClashLaws.{HaveAiredEntries, IsAllowed}
 use Rattle.air_history.specs.HeldReads.{HeldReads}
 use Rattle.air_history.proofs.AgeLemmas.{answered, new_cycle}
-use Rattle.air_history.proofs.ClashLemmas.{clash_told}
+use Rattle.air_history.proofs.ClashLemmas.{policy_told}
 use Rattle.air_history.proofs.PolicyLemmas.{stays_consistent, stays_current, takes}
 use Rattle.held_reads.specs.Policies.{MayFollow, IsNoneIfTaken}
 
@@ -69,7 +69,7 @@ none_by_history RMatrix H R x are is late = takes H R x late
 pub told_by_history : (p : Policy) (held : HeldReads) (x : HeardRead) (answer : Option Clash) → IsAllowed p (map read_at held.reads) → MayFollow p held x → answer ≡ clash_by_entries p held.reads x →
     (H : List Event) → HaveAiredEntries (scheme_of p) held.n H held.reads x → answer ≡ clash_by_history p H (map read_at held.reads) (read_at x)
 told_by_history p held x answer allowed follows by_entries H are =
-    by_entries ∙ sym (clash_told (scheme_of p) held.n H held.reads x are (allowed_with p held x allowed follows))
+    by_entries ∙ sym (policy_told p held.n H held.reads x are (allowed_with p held x allowed follows))
 
 -- It is None if and only if the policy continues with the read.
 pub none_if_taken : (p : Policy) (held : HeldReads) (x : HeardRead) (answer : Option Clash) → IsAllowed p (map read_at held.reads) → MayFollow p held x → answer ≡ clash_by_entries p held.reads x →

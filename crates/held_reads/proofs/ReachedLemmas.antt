@@ -6,7 +6,7 @@ use Rattle.std.proofs.lemmas.Bool.{cases_lt, leb-true, both_ways}
 use Rattle.air_base.specs.declared.verdicts.Clash.{Clash}
 use Rattle.air_history.specs.Clashes.{HeardRead, heard_clash}
 use Rattle.air_history.specs.HeldReads.{HeldReads}
-use Rattle.held_reads.specs.Searches.{clash_of, is_reached}
+use Rattle.held_reads.specs.Searches.{clash_naming, is_reached}
 use Rattle.held_reads.specs.HeldCycles.{held_cycle, cycles_of, AreHeldOnce}
 use Rattle.held_reads.specs.Private.FirstClash.{IsFirstClash}
 use Rattle.held_reads.specs.declared.cycles.TheConstants.{NOT_HELD}
@@ -61,7 +61,7 @@ array_names held entries (Some c) within once sized below answer =
     let a = is_held held.reads c.item (omega arith) in
     let passes : is_reached entries a.1 ≡ true = le_true _ _ (subst (λ k. k ≤ get_or entries a.1.item 0) (sym a.4.1) (subst (λ i. held_cycle held.reads c.item ≤ get_or entries i 0) (sym a.4.0) reached)) in
     record {
-      held = (a.0, a.1, a.2, a.3, (passes, same_clash c (clash_of a.1) (sym a.4.0) (answer.cycle ∙ stands ∙ sym a.4.1)));
+      held = (a.0, a.1, a.2, a.3, (passes, same_clash c (clash_naming a.1) (sym a.4.0) (answer.cycle ∙ stands ∙ sym a.4.1)));
       least = λ k d l t.
           let r = get_or held.reads k d in
           let here : r.item < held.n = within k d l in

@@ -10,7 +10,7 @@ use Rattle.air_history.specs.Reads.{ReadAt}
 use Rattle.air_history.specs.Clashes.{lesser, least, HeardRead, read_at, heard_clash}
 use Rattle.held_reads.specs.declared.reads.HeldRead.{HeldRead}
 use Rattle.held_reads.specs.HeardReads.{heard_of_held}
-use Rattle.held_reads.specs.Searches.{clash_of, lesser_of}
+use Rattle.held_reads.specs.Searches.{clash_naming, lesser_of}
 
 -- The clash with a read.
 abbrev clash_at : ReadAt → Clash
@@ -48,10 +48,10 @@ least_push [] s = refl
 least_push (r ∷ S) s = ap (lesser r) (least_push S s) ∙ lesser_assoc r (least S) (clash_at s)
 
 pub clash_push : (test : HeardRead → Bool) (R : List HeardRead) (r : HeardRead) →
-    heard_clash test (R ++ r ∷ []) ≡ cond (test r) (Some (lesser_of (heard_clash test R) (clash_of r))) (heard_clash test R)
+    heard_clash test (R ++ r ∷ []) ≡ cond (test r) (Some (lesser_of (heard_clash test R) (clash_naming r))) (heard_clash test R)
 clash_push test R r = ap (λ S. least (map read_at S)) (filter-append test R (r ∷ [])) ∙ by (test r)
   where
-    by : (b : Bool) → least (map read_at (filter test R ++ cond b (r ∷ []) [])) ≡ cond b (Some (lesser_of (heard_clash test R) (clash_of r))) (heard_clash test R)
+    by : (b : Bool) → least (map read_at (filter test R ++ cond b (r ∷ []) [])) ≡ cond b (Some (lesser_of (heard_clash test R) (clash_naming r))) (heard_clash test R)
     by true = ap least (map-append read_at (filter test R) (r ∷ [])) ∙ least_push (map read_at (filter test R)) (read_at r)
     by false = ap (λ S. least (map read_at S)) (append-nil (filter test R))
 
@@ -62,11 +62,11 @@ taken_more places i p l e = ap (map heard_of_held) (take_more places i p l) ∙ 
 
 pub search_hit : (test : HeardRead → Bool) (best : Option Clash) (places : List HeldRead) (i : ℕ) (p : HeldRead) → i < length places → p ≡ get_or places i p →
     test (heard_of_held p) ≡ true → best ≡ heard_clash test (map heard_of_held (take i places)) →
-    Some (lesser_of best (clash_of (heard_of_held p))) ≡ heard_clash test (map heard_of_held (take (i + 1) places))
+    Some (lesser_of best (clash_naming (heard_of_held p))) ≡ heard_clash test (map heard_of_held (take (i + 1) places))
 search_hit test best places i p l e hit so_far =
-    ap (λ b. Some (lesser_of b (clash_of (heard_of_held p)))) so_far
+    ap (λ b. Some (lesser_of b (clash_naming (heard_of_held p)))) so_far
     ∙ sym (ap (heard_clash test) (taken_more places i p l e) ∙ clash_push test (map heard_of_held (take i places)) (heard_of_held p)
-    ∙ ap (λ b. cond b (Some (lesser_of (heard_clash test (map heard_of_held (take i places))) (clash_of (heard_of_held p)))) (heard_clash test (map heard_of_held (take i places)))) hit)
+    ∙ ap (λ b. cond b (Some (lesser_of (heard_clash test (map heard_of_held (take i places))) (clash_naming (heard_of_held p)))) (heard_clash test (map heard_of_held (take i places)))) hit)
 
 pub search_miss : (test : HeardRead → Bool) (best : Option Clash) (places : List HeldRead) (i : ℕ) (p : HeldRead) → i < length places → p ≡ get_or places i p →
     test (heard_of_held p) ≡ false → best ≡ heard_clash test (map heard_of_held (take i places)) →
@@ -74,4 +74,4 @@ pub search_miss : (test : HeardRead → Bool) (best : Option Clash) (places : Li
 search_miss test best places i p l e miss so_far =
     so_far
     ∙ sym (ap (heard_clash test) (taken_more places i p l e) ∙ clash_push test (map heard_of_held (take i places)) (heard_of_held p)
-    ∙ ap (λ b. cond b (Some (lesser_of (heard_clash test (map heard_of_held (take i places))) (clash_of (heard_of_held p)))) (heard_clash test (map heard_of_held (take i places)))) miss)
+    ∙ ap (λ b. cond b (Some (lesser_of (heard_clash test (map heard_of_held (take i places))) (clash_naming (heard_of_held p)))) (heard_clash test (map heard_of_held (take i places)))) miss)

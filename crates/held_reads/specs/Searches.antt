@@ -4,8 +4,8 @@ use Rattle.air_base.specs.declared.verdicts.Clash.{Clash}
 use Rattle.air_history.specs.Clashes.{HeardRead, entry_of}
 
 -- The clash with a held read.
-abbrev pub clash_of : HeardRead → Clash
-clash_of r = record { item = r.item; cycle = r.cycle }
+abbrev pub clash_naming : HeardRead → Clash
+clash_naming r = record { item = r.item; cycle = r.cycle }
 
 -- Whether the entries have the item of the held read at its cycle or later.
 abbrev pub is_reached : List ℕ → HeardRead → Bool

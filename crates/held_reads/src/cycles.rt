@@ -9,7 +9,7 @@ ghost use Rattle.held_reads.specs.Private.FirstClash.{IsFirstClash};
 use air_base::Clash;
 use air_lanes::first_not_below;
 
-/// The entry in the array of an item that isn't held.
+/// What the array has for an item that isn't held.
 pub const NOT_HELD: u32 = u32::MAX;
 
 /// The clash with the first item at which the entries aren't below its held cycle; there are `n` items.

@@ -7,7 +7,7 @@ ghost use Rattle.std.specs.Prelude.{◌≡◌, ◌<◌, ◌==◌, ℕ, [], ◌�
 ghost use Rattle.air_history.specs.Ages.{span};
 ghost use Rattle.air_history.specs.Clashes.{read_at, entry_in, newest_heard, heard_clash};
 ghost use Rattle.held_reads.specs.HeardReads.{heard_of_held};
-ghost use Rattle.held_reads.specs.Searches.{clash_of, lesser_of, has_since};
+ghost use Rattle.held_reads.specs.Searches.{clash_naming, lesser_of, has_since};
 
 use air_base::{Clash, NoMemory};
 use std::alloc::Global;
@@ -34,7 +34,7 @@ impl HeldRead {
 
     /// The read without its entries.
     fn clash(&self) -> Clash
-        ensures { result ≡ clash_of (heard_of_held self.now) }
+        ensures { result ≡ clash_naming (heard_of_held self.now) }
     {
         Clash {
             item: self.item,

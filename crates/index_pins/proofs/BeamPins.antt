@@ -11,7 +11,7 @@ use Rattle.air_index.specs.Indexes.{index_bytes}
 use Rattle.air_index.specs.IndexedTapes.{AreBuckets, entries_for, indexed_piece, records_at_marks, records_from, slots_after}
 use Rattle.air_index.specs.OnAir.{ahead, entry_for, marks_index, marks_item, marks_of, wait_for}
 use Rattle.air_index.specs.Records.{data_bytes}
-use Rattle.index_pins.specs.ShortPlans.{four_slots, two_disks, two_editions, two_items, two_slots}
+use Rattle.index_pins.specs.ShortPlans.{one_minor_cycle, two_disks, two_editions, two_items, two_minor_cycles}
 use Rattle.index_pins.specs.ShortTapes.{first_item, second_item}
 
 -- ---- the conditions
@@ -26,10 +26,10 @@ two_buckets = (bucket_read (first_item 1) _ refl, bucket_read (second_item 1) _ 
 abbrev IsRead : List ℕ → Type 0
 IsRead r = (b : Bucket) × (bucket_in r ≡ Some b)
 
-pub two_read : AreBuckets two_slots
+pub two_read : AreBuckets one_minor_cycle
 two_read = All-cons IsRead (first_item 1) (second_item 1 ∷ []) two_buckets.0 (All-cons IsRead (second_item 1) [] two_buckets.1 (All-nil IsRead))
 
-pub four_read : AreBuckets four_slots
+pub four_read : AreBuckets two_minor_cycles
 four_read =
     All-cons IsRead (first_item 1) (second_item 1 ∷ first_item 1 ∷ second_item 1 ∷ []) two_buckets.0
     (All-cons IsRead (second_item 1) (first_item 1 ∷ second_item 1 ∷ []) two_buckets.1 two_read)
@@ -55,21 +55,21 @@ slots_are = (refl, refl, refl, refl)
 
 -- ---- what is written
 
-pub two_written : indexed_piece two_items 2 0 1 two_slots ≡ tape_of (index_bytes 1 0 (1 ∷ 2 ∷ []) ∷ data_bytes 2 (first_item 1) ∷ data_bytes 1 (second_item 1) ∷ [])
+pub two_written : indexed_piece two_items 2 0 1 one_minor_cycle ≡ tape_of (index_bytes 1 0 (1 ∷ 2 ∷ []) ∷ data_bytes 2 (first_item 1) ∷ data_bytes 1 (second_item 1) ∷ [])
 unfolding chunk chunk_len least_common_multiple minor_cycle num_chunks num_minors marks_of ahead marks_index marks_item entry_for wait_for entries_for records_at_marks records_from
 two_written = refl
 
-pub disks_written : indexed_piece two_disks 2 0 1 four_slots
+pub disks_written : indexed_piece two_disks 2 0 1 two_minor_cycles
     ≡ tape_of (index_bytes 1 0 (1 ∷ 2 ∷ []) ∷ data_bytes 2 (first_item 1) ∷ data_bytes 1 (second_item 1) ∷ index_bytes 1 1 (1 ∷ 5 ∷ []) ∷ data_bytes 2 (first_item 1) ∷ data_bytes 1 (second_item 1) ∷ [])
 unfolding chunk chunk_len least_common_multiple minor_cycle num_chunks num_minors marks_of ahead marks_index marks_item entry_for wait_for entries_for records_at_marks records_from
 disks_written = refl
 
-pub later_written : indexed_piece two_disks 2 3 1 four_slots
+pub later_written : indexed_piece two_disks 2 3 1 two_minor_cycles
     ≡ tape_of (index_bytes 4 0 (1 ∷ 2 ∷ []) ∷ data_bytes 2 (first_item 1) ∷ data_bytes 1 (second_item 1) ∷ index_bytes 4 1 (1 ∷ 5 ∷ []) ∷ data_bytes 2 (first_item 1) ∷ data_bytes 1 (second_item 1) ∷ [])
 unfolding chunk chunk_len least_common_multiple minor_cycle num_chunks num_minors marks_of ahead marks_index marks_item entry_for wait_for entries_for records_at_marks records_from
 later_written = refl
 
-pub editions_written : indexed_piece two_editions 3 0 1 four_slots
+pub editions_written : indexed_piece two_editions 3 0 1 two_minor_cycles
     ≡ tape_of (index_bytes 1 0 (1 ∷ 2 ∷ 5 ∷ []) ∷ data_bytes 2 (first_item 1) ∷ data_bytes 1 (second_item 1) ∷ index_bytes 1 1 (1 ∷ 7 ∷ 2 ∷ []) ∷ data_bytes 2 (first_item 1) ∷ data_bytes 1 (second_item 1) ∷ [])
 unfolding chunk chunk_len least_common_multiple minor_cycle num_chunks num_minors marks_of ahead marks_index marks_item entry_for wait_for entries_for records_at_marks records_from
 editions_written = refl

@@ -5,27 +5,27 @@ use Rattle.air_model.specs.Tapes.{TapeRead}
 use Rattle.chunk_program.specs.Editions.{EditionDisks, Plans}
 use Rattle.index_pins.specs.ShortTapes.{first_item, second_item}
 
--- A disk of these items.
-abbrev pub disk : List ℕ → ℕ → Disk
-disk items freq = record { items = items; freq = freq }
+-- A disk of these items, aired this often a cycle.
+abbrev pub short_disk : List ℕ → ℕ → Disk
+short_disk items freq = record { items = items; freq = freq }
 
--- An edition of these disks.
-abbrev pub edition : List Disk → EditionDisks
-edition disks = record { edition = 0; disks = disks }
+-- An edition of these disks, numbered 0.
+abbrev pub short_edition : List Disk → EditionDisks
+short_edition disks = record { edition = 0; disks = disks }
 
 -- Two items on one disk.
 abbrev pub two_items : Plans
-two_items = record { replans = []; programs = edition (disk (0 ∷ 1 ∷ []) 1 ∷ []) ∷ []; pix = [] }
+two_items = record { replans = []; programs = short_edition (short_disk (0 ∷ 1 ∷ []) 1 ∷ []) ∷ []; pix = [] }
 
 -- Two items on two disks, of which the first is aired twice a cycle.
 abbrev pub two_disks : Plans
-two_disks = record { replans = []; programs = edition (disk (0 ∷ []) 2 ∷ disk (1 ∷ []) 1 ∷ []) ∷ []; pix = [] }
+two_disks = record { replans = []; programs = short_edition (short_disk (0 ∷ []) 2 ∷ short_disk (1 ∷ []) 1 ∷ []) ∷ []; pix = [] }
 
 -- Three items, whose program changes in cycle 2: items 0 and 2 change their disks.
 abbrev pub two_editions : Plans
 two_editions = record {
   replans = 2 ∷ [];
-  programs = edition (disk (0 ∷ []) 2 ∷ disk (1 ∷ 2 ∷ []) 1 ∷ []) ∷ edition (disk (0 ∷ 1 ∷ []) 1 ∷ disk (2 ∷ []) 2 ∷ []) ∷ [];
+  programs = short_edition (short_disk (0 ∷ []) 2 ∷ short_disk (1 ∷ 2 ∷ []) 1 ∷ []) ∷ short_edition (short_disk (0 ∷ 1 ∷ []) 1 ∷ short_disk (2 ∷ []) 2 ∷ []) ∷ [];
   pix = [];
 }
 
@@ -33,9 +33,9 @@ two_editions = record {
 abbrev pub whole : List (List ℕ) → TapeRead
 whole records = record { records = records; cut = None }
 
--- The buckets of two slots, and of four.
-abbrev pub two_slots : List (List ℕ)
-two_slots = first_item 1 ∷ second_item 1 ∷ []
+-- The buckets of one minor cycle of two slots, and of two such minor cycles.
+abbrev pub one_minor_cycle : List (List ℕ)
+one_minor_cycle = first_item 1 ∷ second_item 1 ∷ []
 
-abbrev pub four_slots : List (List ℕ)
-four_slots = first_item 1 ∷ second_item 1 ∷ first_item 1 ∷ second_item 1 ∷ []
+abbrev pub two_minor_cycles : List (List ℕ)
+two_minor_cycles = first_item 1 ∷ second_item 1 ∷ first_item 1 ∷ second_item 1 ∷ []

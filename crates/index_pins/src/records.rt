@@ -8,6 +8,7 @@ ghost use Rattle.index_pins.specs.ShortTapes.{first_item};
 use air_index::{Indexed, indexed};
 
 /// An entry counts from 1: the record itself is no next one.
+/// Promise: a search is its definition
 pub fn entry_0_let_through<'a>(bytes: &'a [u8]) -> Option<Indexed<'a>>
     requires { bytes.now ≡ index_bytes 1 0 (1 ∷ 0 ∷ []) }
     ensures { result ≡ None }
@@ -16,6 +17,7 @@ pub fn entry_0_let_through<'a>(bytes: &'a [u8]) -> Option<Indexed<'a>>
 }
 
 /// Nothing follows the entries.
+/// Promise: a search is its definition
 pub fn bytes_behind_the_entries_let_through<'a>(bytes: &'a [u8]) -> Option<Indexed<'a>>
     requires { bytes.now ≡ index_bytes 1 0 (1 ∷ 2 ∷ []) ++ 0 ∷ [] }
     ensures { result ≡ None }
@@ -24,6 +26,7 @@ pub fn bytes_behind_the_entries_let_through<'a>(bytes: &'a [u8]) -> Option<Index
 }
 
 /// The number in a data record counts from 1 too.
+/// Promise: a search is its definition
 pub fn number_0_let_through<'a>(bytes: &'a [u8]) -> Option<Indexed<'a>>
     requires { bytes.now ≡ data_bytes 0 (first_item 1) }
     ensures { result ≡ None }
@@ -32,6 +35,7 @@ pub fn number_0_let_through<'a>(bytes: &'a [u8]) -> Option<Indexed<'a>>
 }
 
 /// A bucket alone, as on a plain tape, is no record of an indexed one.
+/// Promise: a search is its definition
 pub fn bucket_alone_let_through<'a>(bytes: &'a [u8]) -> Option<Indexed<'a>>
     requires { bytes.now ≡ first_item 1 }
     ensures { result ≡ None }

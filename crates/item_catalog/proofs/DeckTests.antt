@@ -1,7 +1,8 @@
 -- No kind of fault applies to the declarations of a deck that is well made and within the limits.
 use Rattle.std.proofs.Common.{◌≡◌, ◌⊎◌, ◌<◌, ◌≤◌, ◌+◌, ◌^◌, ◌++◌, ◌∷◌, [], ℕ, Bool, List, Some, None, true, false, if◌then◌else◌, inl, inr, not, refl, sym, ap, ◌∙◌, length, map, nat_le, nat_lt, subst, arith, length-append}
-use Rattle.std.specs.Prelude.{◌==◌, ◌||◌, All, sum_by}
+use Rattle.std.specs.Prelude.{◌==◌, ◌||◌, ◌&&◌, All, sum_by}
 use Rattle.std.specs.List.{enumerate_from, list_any}
+use Rattle.std.proofs.lemmas.Bool.{and_right}
 use Rattle.std.proofs.lemmas.List.{length-map}
 use Rattle.std.proofs.lemmas.List.Elements.{All-head, All-tail}
 use Rattle.std.proofs.lemmas.List.FromFn.{length-enumerate_from}
@@ -11,6 +12,9 @@ use Rattle.air_history.specs.UpdateRules.{has_repeat}
 use Rattle.air_model.specs.declared.deck.ReaderPlan.{ReaderPlan}
 use Rattle.air_model.specs.Disks.{DiskSpec}
 use Rattle.air_model.specs.Decks.{Deck, IsDeck, IsQuery, Item}
+use Rattle.air_base.specs.declared.verdicts.Policy.{Policy}
+use Rattle.air_base.specs.declared.verdicts.Policy.TheVariants.{FMatrix}
+use Rattle.air_model.specs.Aired.{airs_columns}
 use Rattle.air_model.specs.Buckets.{has_ages, most_count}
 use Rattle.item_catalog.specs.ListTests.{reaches}
 use Rattle.item_catalog.specs.Parts.{ReplanSaid}
@@ -20,6 +24,7 @@ use Rattle.item_catalog.specs.DeckLimits.{DiskWithin, ReaderWithin, SettingsWith
 use Rattle.item_catalog.specs.Private.Drafts.{DraftValue, draft_of, with_declaration}
 use Rattle.item_catalog.specs.Faults.{differs_from, end_tests, query_tests}
 use Rattle.item_catalog.specs.Ranges.{outside}
+use Rattle.item_catalog.specs.Settings.{groups_vectors}
 use Rattle.item_catalog.specs.declared.faults.FaultKind.TheVariants as fault
 use Rattle.item_catalog.specs.DeckTexts.{all_set, deck_declarations, disk_declaration, item_declaration, query_declarations, reader_declaration, replan_declaration, update_declarations}
 use Rattle.item_catalog.proofs.DraftSteps.{Passes, passes_both, with_all}
@@ -123,9 +128,14 @@ version_range v (inr two) = (omega arith, omega arith)
 set_passes : (deck : Deck) → (deck.settings.version ≡ 1) ⊎ (deck.settings.version ≡ 2) → SettingsWithin deck.settings → Passes (with_declaration (after_queries deck) (e.DeclaredScript deck.script)) (map e.DeclaredSetting (all_set deck.settings))
 set_passes deck known w =
     let seed = w.seed in
-    (tt, refl, (version_range deck.settings.version known, refl, ((omega arith, w.cycles), refl, ((omega arith, omega arith), refl, ((omega arith, w.loss), refl, ((omega arith, w.again), refl, ((omega arith, w.late), refl, ((omega arith, w.monitors), refl, ((w.some_hears, w.hears), refl, tt)))))))))
+    (tt, refl, (version_range deck.settings.version known, refl, ((omega arith, w.group), refl, ((omega arith, w.cycles), refl, ((omega arith, omega arith), refl, ((omega arith, w.loss), refl, ((omega arith, w.again), refl, ((omega arith, w.late), refl, ((omega arith, w.monitors), refl, ((w.some_hears, w.hears), refl, tt))))))))))
 
 -- ---- the end
+
+-- Groups under F-Matrix alone aren't refused.
+columns_grouped : (p : Policy) (g : ℕ) → (p ≡ FMatrix) ⊎ (g ≡ 0) → (nat_lt 0 g && not (airs_columns p)) ≡ false
+columns_grouped p g (inl same) = ap (λ p. nat_lt 0 g && not (airs_columns p)) same ∙ and_right (nat_lt 0 g) false refl
+columns_grouped p g (inr none) = ap (λ g. nat_lt 0 g && not (airs_columns p)) none
 
 -- ---- the whole deck
 
@@ -154,8 +164,9 @@ module _ (deck : Deck) (made : IsDeck deck) (within : WithinLimits deck) where
       let more : 0 < length (disk_parts deck) = omega (arith, length-map deck.disks disk_part, some_disk deck.disks (omega arith)) in grind arith in
       let most = most_count deck.settings.version in
       let many : nat_lt most n ≡ false = not_less most n (let few = made.most in omega (arith, items_long)) in
-      none_two fault.Sizes fault.Limit (own || other) (n == 0 || length (disk_parts deck) == 0 || nat_lt most n) sizes
+      none_three fault.Sizes fault.Limit fault.Setting (own || other) (n == 0 || length (disk_parts deck) == 0 || nat_lt most n) (groups_vectors (all_set deck.settings)) sizes
       (neither (n == 0 || length (disk_parts deck) == 0) (nat_lt most n) (neither (n == 0) (length (disk_parts deck) == 0) items disks) many)
+      (columns_grouped deck.settings.policy deck.settings.group made.grouped)
 
   pub deck_passes : Passes (draft_of []) (deck_declarations deck)
   deck_passes =

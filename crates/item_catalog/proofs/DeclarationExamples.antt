@@ -170,7 +170,7 @@ pub record SettingsSet : Type 0 where
   policy : policy_in (setting.Number Loss 3 ∷ setting.Policy RMatrix ∷ []) ≡ RMatrix
   no_policy : policy_in [] ≡ FMatrix
   all_set : settings_in (setting.Policy Datacycle ∷ setting.Number Loss 3 ∷ setting.Number Cycles 2 ∷ [])
-      ≡ record { policy = Datacycle; version = 1; cycles = 2; seed = 0; loss = 3; again = 0; late = 0; monitors = 0; hears = 1000000 }
+      ≡ record { policy = Datacycle; version = 1; group = 0; cycles = 2; seed = 0; loss = 3; again = 0; late = 0; monitors = 0; hears = 1000000 }
 
 settings : SettingsSet
 unfolding number_of

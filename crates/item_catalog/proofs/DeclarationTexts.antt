@@ -176,6 +176,7 @@ freqs_spelled freqs all = list_spelled SmallNumber freq_text freq_of freq_spelle
 small_range : (name : Name) (k : ℕ) → k ≤ (range_of name).1 → k < 2 ^ 64
 small_range n.Delta k most = omega arith
 small_range n.Version k most = omega arith
+small_range n.Group k most = omega arith
 small_range n.Cycles k most = omega arith
 small_range n.Seed k most = omega arith
 small_range n.Loss k most = omega arith
@@ -191,6 +192,7 @@ inside least most k low high =
 number_set : (name : Name) (k : ℕ) → InRange (setting.Number name k) → spelled_declaration (set_row (setting.Number name k)) ≡ Ok (e.DeclaredSetting (setting.Number name k))
 number_set n.Delta k range = rw (text_spells k (small_range n.Delta k range.1), inside (range_of n.Delta).0 (range_of n.Delta).1 k range.0 range.1) refl
 number_set n.Version k range = rw (text_spells k (small_range n.Version k range.1), inside (range_of n.Version).0 (range_of n.Version).1 k range.0 range.1) refl
+number_set n.Group k range = rw (text_spells k (small_range n.Group k range.1), inside (range_of n.Group).0 (range_of n.Group).1 k range.0 range.1) refl
 number_set n.Cycles k range = rw (text_spells k (small_range n.Cycles k range.1), inside (range_of n.Cycles).0 (range_of n.Cycles).1 k range.0 range.1) refl
 number_set n.Seed k range = rw (text_spells k (small_range n.Seed k range.1), inside (range_of n.Seed).0 (range_of n.Seed).1 k range.0 range.1) refl
 number_set n.Loss k range = rw (text_spells k (small_range n.Loss k range.1), inside (range_of n.Loss).0 (range_of n.Loss).1 k range.0 range.1) refl

@@ -58,6 +58,8 @@ made seed size items updates queries some few d =
       few = omega arith;
       from_two = All-nil (λ r. 2 ≤ r.cycle);
       within_a_run = All-nil (λ r. r.cycle ≤ MOST_CYCLES);
+      group = omega arith;
+      grouped = inl refl;
       rising = λ i j x less within. absurd (omega arith);
       updates = each (IsUpdate (length items)) (subst (λ m. All (IsUpdate m) updates) (sym d.count) d.updates_made);
       readers = d.query_count;
@@ -92,7 +94,7 @@ within seed size items updates queries seeded few d =
       query = d.short;
       script = omega (arith, script_short (10 * size));
       starts = omega (arith, count_by-le-length is_scripted_start script, script_short (10 * size));
-      settings = record { cycles = omega arith; seed = seeded; loss = omega arith; again = omega arith; late = omega arith; monitors = omega arith; some_hears = omega arith; hears = omega arith };
+      settings = record { group = omega arith; cycles = omega arith; seed = seeded; loss = omega arith; again = omega arith; late = omega arith; monitors = omega arith; some_hears = omega arith; hears = omega arith };
     }
 
 -- What is drawn is like this.

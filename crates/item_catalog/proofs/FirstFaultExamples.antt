@@ -69,7 +69,7 @@ small = record {
   readers = [];
   queries = [];
   script = [];
-  settings = record { policy = FMatrix; version = 1; cycles = 10; seed = 0; loss = 0; again = 0; late = 0; monitors = 0; hears = 1000000 };
+  settings = record { policy = FMatrix; version = 1; group = 0; cycles = 10; seed = 0; loss = 0; again = 0; late = 0; monitors = 0; hears = 1000000 };
 }
 
 spell : RecordsSpell (item0 ∷ disk1 ∷ []) small

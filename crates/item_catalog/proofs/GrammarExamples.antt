@@ -64,7 +64,7 @@ whole_deck : deck_of (declarations_in whole) ≡ record {
   readers = record { room = 0; age = 0; tries = 3 } ∷ [];
   queries = ((1 ∷ 0 ∷ []) ∷ []) ∷ [];
   script = None ∷ Some 0 ∷ None ∷ [];
-  settings = record { policy = FMatrix; version = 1; cycles = 10; seed = 0; loss = 0; again = 0; late = 0; monitors = 0; hears = 1000000 };
+  settings = record { policy = FMatrix; version = 1; group = 0; cycles = 10; seed = 0; loss = 0; again = 0; late = 0; monitors = 0; hears = 1000000 };
 }
 unfolding number_of spelled_value_write spelled_write spelled_event freq_of all_some
 whole_deck = refl

@@ -1,4 +1,4 @@
--- Records without fault declare parts that keep every limit, up to each place. So a deck that a text spells is well made.
+-- What records without fault declare keeps every limit, up to each place. So a deck that a text spells is well made.
 use Rattle.std.proofs.Common.{◌≡◌, ◌<◌, ◌++◌, ◌∷◌, [], ℕ, List, None, Result, Ok, Err, ◌∙◌, sym, refl, ap, subst, arith, get_or, length, inl, inr}
 use Rattle.std.proofs.lemmas.Bool.{cases_lt}
 use Rattle.std.proofs.lemmas.List.{get_or_past}

@@ -1,4 +1,4 @@
--- What holds of the parts that declarations declare, with one more declaration: tag by tag, and `kept_more` for all tags.
+-- What holds of what declarations declare, with one more declaration: tag by tag, and `kept_more` for all tags.
 use Rattle.std.proofs.Common.{◌≡◌, ◌≢◌, ◌<◌, ◌≤◌, ◌+◌, ◌^◌, ◌++◌, ◌∷◌, [], ℕ, List, Option, Some, None, true, false, not, cond, ◌∙◌, refl, ap, arith, get_or, length, nat_lt, nat_le, inl, inr, ◌⊎◌, length-append}
 use Rattle.std.specs.Prelude.{◌==◌, ◌||◌, All}
 use Rattle.std.specs.List.{list_all, list_any}

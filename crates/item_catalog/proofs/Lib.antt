@@ -52,3 +52,5 @@ mod TestExamples
 mod ReplanExamples
 mod FirstFaultExamples
 mod EndExamples
+mod GroupExamples
+mod NumberExamples

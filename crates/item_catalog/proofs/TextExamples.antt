@@ -17,7 +17,7 @@ deck = record {
   readers = record { room = 0; age = 0; tries = 1 } ∷ [];
   queries = ((0 ∷ 1 ∷ []) ∷ []) ∷ [];
   script = None ∷ Some 0 ∷ [];
-  settings = record { policy = FMatrix; version = 1; cycles = 10; seed = 0; loss = 0; again = 0; late = 0; monitors = 0; hears = 1000000 };
+  settings = record { policy = FMatrix; version = 1; group = 0; cycles = 10; seed = 0; loss = 0; again = 0; late = 0; monitors = 0; hears = 1000000 };
 }
 
 -- A line of the text.
@@ -26,7 +26,7 @@ line text = text ++ 10 ∷ []
 
 its_text : deck_text deck ≡
     line (codes "item,0,10,1") ++ line (codes "item,1,20,1") ++ line (codes "disk,2,1") ++ line (codes "update,0,1,0=1+5") ++ line (codes "reader,0,0,1")
-    ++ line (codes "query,0,0 1") ++ line (codes "script,s 0") ++ line (codes "set,policy,F") ++ line (codes "set,version,1") ++ line (codes "set,cycles,10") ++ line (codes "set,seed,0")
+    ++ line (codes "query,0,0 1") ++ line (codes "script,s 0") ++ line (codes "set,policy,F") ++ line (codes "set,version,1") ++ line (codes "set,group,0") ++ line (codes "set,cycles,10") ++ line (codes "set,seed,0")
     ++ line (codes "set,loss,0") ++ line (codes "set,again,0") ++ line (codes "set,late,0") ++ line (codes "set,monitors,0") ++ line (codes "set,hears,1000000")
 unfolding deck deck_text rows_text number_text escaped fields_text is_blank
 its_text = refl
@@ -34,7 +34,7 @@ its_text = refl
 -- With a replan to two disks it has one more record.
 replanned_text : deck_text (record deck { replans = record { cycle = 5; disks = record { size = 1; freq = 2 } ∷ record { size = 1; freq = 1 } ∷ [] } ∷ [] }) ≡
     line (codes "item,0,10,1") ++ line (codes "item,1,20,1") ++ line (codes "disk,2,1") ++ line (codes "replan,5,1 1,2 1") ++ line (codes "update,0,1,0=1+5") ++ line (codes "reader,0,0,1")
-    ++ line (codes "query,0,0 1") ++ line (codes "script,s 0") ++ line (codes "set,policy,F") ++ line (codes "set,version,1") ++ line (codes "set,cycles,10") ++ line (codes "set,seed,0")
+    ++ line (codes "query,0,0 1") ++ line (codes "script,s 0") ++ line (codes "set,policy,F") ++ line (codes "set,version,1") ++ line (codes "set,group,0") ++ line (codes "set,cycles,10") ++ line (codes "set,seed,0")
     ++ line (codes "set,loss,0") ++ line (codes "set,again,0") ++ line (codes "set,late,0") ++ line (codes "set,monitors,0") ++ line (codes "set,hears,1000000")
 unfolding deck deck_text rows_text number_text escaped fields_text is_blank
 replanned_text = refl

@@ -1,6 +1,6 @@
 -- The deck of parts to which no kind applies is well made, and within the limits.
 use Rattle.std.proofs.Common.{◌≡◌, ◌⊎◌, ◌<◌, ◌≤◌, ◌+◌, ◌*◌, ◌^◌, ◌∷◌, [], ℕ, zero, suc, List, Option, Some, None, Bool, true, false, cond, ◌∙◌, sym, subst, refl, ap, arith, map, get_or, length, take, nat_lt, inl, inr}
-use Rattle.std.specs.Prelude.{◌==◌, ◌||◌, All, AllPairs, sum_by, unwrap_or}
+use Rattle.std.specs.Prelude.{◌==◌, ◌||◌, ◌&&◌, not, All, AllPairs, sum_by, unwrap_or}
 use Rattle.std.specs.List.{list_any, range_with_len}
 use Rattle.std.proofs.lemmas.Bool.{cases_lt}
 use Rattle.std.proofs.lemmas.Bool.Decides.{nat_tests}
@@ -10,6 +10,9 @@ use Rattle.std.proofs.lemmas.List.Elements.{All-map}
 use Rattle.std.proofs.lemmas.List.Sums.{sum_by-cons}
 use Rattle.std.proofs.lemmas.Nat.{mul-le}
 use Rattle.air_base.specs.declared.limits.TheConstants.{MOST_ASKED, MOST_CYCLES, MOST_DELTA, MOST_DISKS, MOST_FREQ, MOST_RATE, MOST_SIZE, MOST_UPDATERS}
+use Rattle.air_base.specs.declared.verdicts.Policy.{Policy}
+use Rattle.air_base.specs.declared.verdicts.Policy.TheVariants.{FMatrix, Datacycle, RMatrix}
+use Rattle.air_model.specs.Aired.{airs_columns}
 use Rattle.air_model.specs.Buckets.{most_count}
 use Rattle.air_model.specs.Decks.{Deck, IsDeck, IsQuery, IsUpdate, Item, Replan, scripted_commits}
 use Rattle.air_history.specs.UpdateLists.{UpdateLists}
@@ -25,7 +28,7 @@ use Rattle.item_catalog.specs.RecordKinds.{first_of}
 use Rattle.item_catalog.specs.Faults.{differs_from, end_tests}
 use Rattle.item_catalog.specs.ListTests.{option_any}
 use Rattle.item_catalog.specs.Ranges.{outside}
-use Rattle.item_catalog.specs.Settings.{default_of, number_in, number_said, range_of, same_name, settings_in}
+use Rattle.item_catalog.specs.Settings.{default_of, groups_vectors, number_in, number_said, policy_in, range_of, same_name, settings_in}
 use Rattle.item_catalog.specs.declared.faults.FaultKind.TheVariants as fault
 use Rattle.item_catalog.specs.declared.parts.DiskPart.{DiskPart}
 use Rattle.item_catalog.specs.declared.deck.draft.settings.Name.{Name}
@@ -34,7 +37,7 @@ use Rattle.item_catalog.specs.declared.deck.draft.settings.Setting.{Setting}
 use Rattle.item_catalog.specs.declared.deck.draft.settings.Setting.TheVariants as setting
 use Rattle.air_model.proofs.DeckLemmas.{by_editions}
 use Rattle.item_catalog.proofs.DiskLemmas.{freqs_len}
-use Rattle.item_catalog.proofs.DeclarationLemmas.{none_of_two, or_none}
+use Rattle.item_catalog.proofs.DeclarationLemmas.{none_of_three, or_none}
 use Rattle.item_catalog.proofs.KeptLemmas.{DiskKept, InRange, Kept, none_all}
 
 -- ---- settings
@@ -42,6 +45,7 @@ use Rattle.item_catalog.proofs.KeptLemmas.{DiskKept, InRange, Kept, none_all}
 same_named : (a b : Name) → same_name a b ≡ true → range_of a ≡ range_of b
 same_named n.Delta n.Delta h = refl
 same_named n.Version n.Version h = refl
+same_named n.Group n.Group h = refl
 same_named n.Cycles n.Cycles h = refl
 same_named n.Seed n.Seed h = refl
 same_named n.Loss n.Loss h = refl
@@ -54,6 +58,7 @@ same_named a b h = cc h
 default_fits : (name : Name) → ((range_of name).0 ≤ default_of name) × (default_of name ≤ (range_of name).1)
 default_fits n.Delta = (omega arith, omega arith)
 default_fits n.Version = (omega arith, omega arith)
+default_fits n.Group = (omega arith, omega arith)
 default_fits n.Cycles = (omega arith, omega arith)
 default_fits n.Seed = (omega arith, omega arith)
 default_fits n.Loss = (omega arith, omega arith)
@@ -90,6 +95,7 @@ settings_fit : (set : List Setting) → All InRange set → SettingsWithin (sett
 settings_fit set all =
     let seed = (number_fits n.Seed set all).1 in
     record {
+      group = (number_fits n.Group set all).1;
       cycles = (number_fits n.Cycles set all).1;
       seed = omega arith;
       loss = (number_fits n.Loss set all).1;
@@ -145,15 +151,26 @@ take_for_each f a (suc n) (suc m) less = ap (λ l. f a ∷ l) (take_for_each f (
 
 -- ---- the deck
 
+none_set : (g : ℕ) (b : Bool) → nat_lt 0 g ≡ b → (b && true) ≡ false → g ≡ 0
+none_set g true e h = cc h
+none_set g false e h = grind (arith, nat_tests, e)
+
 -- What the end requires of the parts.
 record Ended (d : DraftValue) : Type 0 where
   sizes : sum_by (λ x. x.size) d.disks ≡ length d.items
   replans : All (λ r. sum_by (λ x. x.size) r.disks ≡ length d.items) d.replans
   some : 0 < length d.items
   most : length d.items ≤ most_count (number_in n.Version d.set)
+  grouped : (policy_in d.set ≡ FMatrix) ⊎ (number_in n.Group d.set ≡ 0)
 
 adds_up : (n : ℕ) (disks : List DiskPart) → differs_from n disks ≡ false → sum_by (λ x. x.size) disks ≡ n
 adds_up n disks h = grind (arith, nat_tests, h)
+
+-- Groups come under F-Matrix alone.
+grouped_from : (p : Policy) (g : ℕ) → (nat_lt 0 g && not (airs_columns p)) ≡ false → (p ≡ FMatrix) ⊎ (g ≡ 0)
+grouped_from FMatrix g h = inl refl
+grouped_from Datacycle g h = inr (none_set g (nat_lt 0 g) refl h)
+grouped_from RMatrix g h = inr (none_set g (nat_lt 0 g) refl h)
 
 ended : (d : DraftValue) → first_of (end_tests (length d.items) d.disks d.replans d.set) ≡ None → Ended d
 ended d none =
@@ -161,7 +178,7 @@ ended d none =
     let empty = length d.items == 0 || length d.disks == 0 in
     let own = differs_from (length d.items) d.disks in
     let some = list_any (λ (r : ReplanSaid). differs_from (length d.items) r.disks) d.replans in
-    let t = none_of_two fault.Sizes fault.Limit (own || some) (empty || nat_lt most (length d.items)) none in
+    let t = none_of_three fault.Sizes fault.Limit fault.Setting (own || some) (empty || nat_lt most (length d.items)) (groups_vectors d.set) none in
     let sizes = or_none own some t.0 in
     let limits = or_none empty (nat_lt most (length d.items)) t.1 in
     let items = or_none (length d.items == 0) (length d.disks == 0) limits.0 in
@@ -170,6 +187,7 @@ ended d none =
       replans = λ i r below. adds_up (length d.items) (get_or d.replans i r).disks (none_all (λ (r : ReplanSaid). differs_from (length d.items) r.disks) d.replans sizes.1 i r below);
       some = grind (arith, nat_tests, items.0);
       most = grind (arith, nat_tests, limits.1);
+      grouped = grouped_from (policy_in d.set) (number_in n.Group d.set) t.2;
     }
 
 module _ (d : DraftValue) (k : Kept d) (end : first_of (end_tests (length d.items) d.disks d.replans d.set) ≡ None) where
@@ -219,6 +237,8 @@ module _ (d : DraftValue) (k : Kept d) (end : first_of (end_tests (length d.item
         most = let most = e.most in omega (arith, items_len);
         values = All-map (λ (i : Item). i.value < 2 ^ 64) plain_item d.items (λ i x below. (k.items.each i x below).0);
         version = known_version d.set k.set;
+        group = let few = (number_fits n.Group d.set k.set).1 in omega arith;
+        grouped = e.grouped;
         sizes = by_editions (λ specs. sum_by (λ d. d.size) specs ≡ length (map plain_item d.items)) (deck_from d) (sizes_same (number_in n.Delta d.set) d.disks ∙ e.sizes ∙ sym items_len)
             (each_replan (λ r. sum_by (λ d. d.size) r.disks ≡ length (map plain_item d.items)) (λ i r below. sizes_same (number_in n.Delta d.set) (get_or d.replans i r).disks ∙ e.replans i r below ∙ sym items_len));
         aired = by_editions (All (λ d. (0 < d.size) × (0 < d.freq))) (deck_from d) (λ i x below. let s = specs i x below in (s.some, s.often))

@@ -1,6 +1,6 @@
 -- The limits of a deck in the grammar, in addition to what makes it well made (`IsDeck`).
 use Rattle.std.specs.Prelude.{ℕ, ◌^◌, ◌<◌, ◌≤◌, length, All, sum_by}
-use Rattle.air_base.specs.declared.limits.TheConstants.{MOST_AGE, MOST_ASKED, MOST_CYCLES, MOST_DISKS, MOST_EVENTS, MOST_FREQ, MOST_HEARS, MOST_MONITORS, MOST_QUERIES, MOST_RATE, MOST_READERS, MOST_ROOM, MOST_SHARE, MOST_SIZE, MOST_STARTS, MOST_TRIES, MOST_UPDATERS, MOST_UPDATES}
+use Rattle.air_base.specs.declared.limits.TheConstants.{MOST_AGE, MOST_ASKED, MOST_CYCLES, MOST_DISKS, MOST_EVENTS, MOST_FREQ, MOST_HEARS, MOST_MONITORS, MOST_QUERIES, MOST_RATE, MOST_READERS, MOST_ROOM, MOST_GROUP, MOST_SHARE, MOST_SIZE, MOST_STARTS, MOST_TRIES, MOST_UPDATERS, MOST_UPDATES}
 use Rattle.air_model.specs.declared.deck.ReaderPlan.{ReaderPlan}
 use Rattle.air_model.specs.declared.deck.Settings.{Settings}
 use Rattle.air_model.specs.Disks.{DiskSpec}
@@ -25,6 +25,7 @@ pub record ReaderWithin (r : ReaderPlan) : Type 0 where
 
 -- Each setting is in its range.
 pub record SettingsWithin (s : Settings) : Type 0 where
+  pub group : s.group ≤ MOST_GROUP
   pub cycles : s.cycles ≤ MOST_CYCLES
   pub seed : s.seed < 2 ^ 64
   pub loss : s.loss ≤ MOST_SHARE

@@ -1,6 +1,6 @@
--- The text of a deck: one record for each of its parts.
+-- The text of a deck: one record for each thing that it declares.
 --
--- The records are those of the grammar (`Declarations`), with the parts in the deck's order: the items, the disks, the replans,
+-- The records are those of the grammar (`Declarations`), in the deck's order: the items, the disks, the replans,
 -- the updates of each updater, the readers, the queries of each reader, one record for the script, and one for each setting
 -- except delta, since each disk's frequency is given.
 use Rattle.std.specs.Prelude.{◌≡◌, ◌+◌, ◌<◌, ◌++◌, ℕ, List, [], ◌∷◌, Bool, true, false, Option, Some, None, length, map, codes}
@@ -49,6 +49,7 @@ write_text w = number_text w.item ++ (codes "=" ++ value_text w.minus w.base w.a
 abbrev pub name_text : Name → List ℕ
 name_text n.Delta = codes "delta"
 name_text n.Version = codes "version"
+name_text n.Group = codes "group"
 name_text n.Cycles = codes "cycles"
 name_text n.Seed = codes "seed"
 name_text n.Loss = codes "loss"
@@ -114,7 +115,7 @@ query_declarations from queries = flat_map (λ (own : ℕ × List (List ℕ)). m
 -- All settings except delta.
 abbrev pub all_set : Settings → List Setting
 all_set s =
-    setting.Policy s.policy ∷ setting.Number n.Version s.version ∷ setting.Number n.Cycles s.cycles ∷ setting.Number n.Seed s.seed ∷ setting.Number n.Loss s.loss ∷ setting.Number n.Again s.again ∷
+    setting.Policy s.policy ∷ setting.Number n.Version s.version ∷ setting.Number n.Group s.group ∷ setting.Number n.Cycles s.cycles ∷ setting.Number n.Seed s.seed ∷ setting.Number n.Loss s.loss ∷ setting.Number n.Again s.again ∷
     setting.Number n.Late s.late ∷ setting.Number n.Monitors s.monitors ∷ setting.Number n.Hears s.hears ∷ []
 
 -- What a deck declares.

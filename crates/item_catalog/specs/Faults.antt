@@ -18,7 +18,7 @@ use Rattle.item_catalog.specs.Ranges.{outside}
 use Rattle.item_catalog.specs.Declarations.{Declaration, spelled_declaration}
 use Rattle.item_catalog.specs.Declarations as e
 use Rattle.item_catalog.specs.Parts.{ReplanSaid, items_in, disk_parts_in, last_replan_cycle, replans_in, updates_in, count_updates, readers_in, count_queries, script_in, set_in}
-use Rattle.item_catalog.specs.Settings.{number_in, same_setting}
+use Rattle.item_catalog.specs.Settings.{groups_vectors, number_in, same_setting}
 use Rattle.item_catalog.specs.Kinds.{deck_kind_number}
 use Rattle.item_catalog.specs.declared.faults.FaultKind.{FaultKind}
 use Rattle.item_catalog.specs.declared.faults.FaultKind.TheVariants as fault
@@ -112,7 +112,8 @@ differs_from items disks = not (sum_by (λ d. d.size) disks == items)
 abbrev pub end_tests : ℕ → List DiskPart → List ReplanSaid → List Setting → List (FaultKind × Bool)
 end_tests items disks replans set =
     (fault.Sizes, differs_from items disks || list_any (λ replan. differs_from items replan.disks) replans) ∷
-    (fault.Limit, items == 0 || length disks == 0 || nat_lt (most_count (number_in Version set)) items) ∷ []
+    (fault.Limit, items == 0 || length disks == 0 || nat_lt (most_count (number_in Version set)) items) ∷
+    (fault.Setting, groups_vectors set) ∷ []
 
 -- The numbers of the kinds that apply to what a record spells, after declarations.
 abbrev pub kinds_after : List Declaration → Result Declaration FaultKind → List ℕ

@@ -11,7 +11,7 @@ use Rattle.item_catalog.specs.Decks.{deck_of}
 use Rattle.item_catalog.specs.declared.faults.DeckError.{DeckError}
 use Rattle.item_catalog.specs.declared.faults.DeckError.TheVariants as error
 
--- The records spell the deck: no kind applies to a record, or at the end, and these are the parts that they declare.
+-- The records spell the deck: no kind applies to a record, or at the end, and this is the deck that they declare.
 pub record RecordsSpell (records : List (List (List ℕ))) (deck : Deck) : Type 0 where
   pub faultless : NoneBefore (kinds_at records) (length records + 1)
   pub parts : deck ≡ deck_of (declarations_in records)

@@ -1,4 +1,4 @@
--- What declarations declare, part by part. The parts of one kind are in their declarations' order, with any others between
+-- What declarations declare: the items, the disks, and so on, each in the order of their declarations, with any others between
 -- them.
 use Rattle.std.specs.Prelude.{◌+◌, ◌==◌, ℕ, List, [], ◌∷◌, Bool, true, false, Option, Some, None, fold, map, max, count_by, if◌then◌else◌}
 use Rattle.std.specs.List.{filter_map, flat_map}

@@ -1,14 +1,15 @@
 -- Settings: which name and value a record may give one, and what all settings are after some were set.
-use Rattle.std.specs.Prelude.{◌-◌, ◌^◌, ℕ, Bool, true, false, List, [], ◌∷◌, Option, Some, None, find, option_map, unwrap_or, codes, if◌then◌else◌}
-use Rattle.air_base.specs.declared.limits.TheConstants.{DEFAULT_CYCLES, DEFAULT_HEARS, MOST_CYCLES, MOST_DELTA, MOST_HEARS, MOST_MONITORS, MOST_SHARE, NEWEST_VERSION}
+use Rattle.std.specs.Prelude.{◌-◌, ◌^◌, ◌&&◌, ℕ, Bool, true, false, not, nat_lt, List, [], ◌∷◌, Option, Some, None, find, option_map, unwrap_or, codes, if◌then◌else◌}
+use Rattle.air_base.specs.declared.limits.TheConstants.{DEFAULT_CYCLES, DEFAULT_HEARS, MOST_CYCLES, MOST_DELTA, MOST_HEARS, MOST_MONITORS, MOST_GROUP, MOST_SHARE, NEWEST_VERSION}
 use Rattle.air_base.specs.Numbers.{number_of}
 use Rattle.air_base.specs.declared.verdicts.Policy.{Policy}
 use Rattle.air_base.specs.declared.verdicts.Policy.TheVariants.{FMatrix, Datacycle, RMatrix}
 use Rattle.air_model.specs.declared.deck.Settings.{Settings}
+use Rattle.air_model.specs.Aired.{airs_columns}
 use Rattle.item_catalog.specs.Ranges.{outside}
 use Rattle.item_catalog.specs.RecordFields.{◌is◌}
 use Rattle.item_catalog.specs.declared.deck.draft.settings.Name.{Name}
-use Rattle.item_catalog.specs.declared.deck.draft.settings.Name.TheVariants.{Delta, Version, Cycles, Seed, Loss, Again, Late, Monitors, Hears}
+use Rattle.item_catalog.specs.declared.deck.draft.settings.Name.TheVariants.{Delta, Version, Group, Cycles, Seed, Loss, Again, Late, Monitors, Hears}
 use Rattle.item_catalog.specs.declared.deck.draft.settings.Setting.{Setting}
 use Rattle.item_catalog.specs.declared.deck.draft.settings.Setting.TheVariants as setting
 
@@ -23,6 +24,7 @@ pub record NumberSetting : Type 0 where
 abbrev pub number_setting : Name → NumberSetting
 number_setting Delta = record { word = codes "delta"; least = 0; most = MOST_DELTA; unset = 0 }
 number_setting Version = record { word = codes "version"; least = 1; most = NEWEST_VERSION; unset = 1 }
+number_setting Group = record { word = codes "group"; least = 0; most = MOST_GROUP; unset = 0 }
 number_setting Cycles = record { word = codes "cycles"; least = 0; most = MOST_CYCLES; unset = DEFAULT_CYCLES }
 number_setting Seed = record { word = codes "seed"; least = 0; most = 2 ^ 64 - 1; unset = 0 }
 number_setting Loss = record { word = codes "loss"; least = 0; most = MOST_SHARE; unset = 0 }
@@ -40,7 +42,7 @@ default_of name = (number_setting name).unset
 
 -- The setting of this word, if there is one.
 abbrev pub name_of : List ℕ → Option Name
-name_of text = find (λ name. text is (number_setting name).word) (Delta ∷ Version ∷ Cycles ∷ Seed ∷ Loss ∷ Again ∷ Late ∷ Monitors ∷ Hears ∷ [])
+name_of text = find (λ name. text is (number_setting name).word) (Delta ∷ Version ∷ Group ∷ Cycles ∷ Seed ∷ Loss ∷ Again ∷ Late ∷ Monitors ∷ Hears ∷ [])
 
 -- The policy of this letter, if there is one.
 abbrev pub spelled_policy : List ℕ → Option Policy
@@ -86,11 +88,16 @@ policy_in [] = FMatrix
 policy_in (setting.Policy policy ∷ settings) = policy
 policy_in (setting.Number name n ∷ settings) = policy_in settings
 
+-- A group is set with a policy that airs no columns.
+abbrev pub groups_vectors : List Setting → Bool
+groups_vectors set = nat_lt 0 (number_in Group set) && not (airs_columns (policy_in set))
+
 -- All settings, if these were set.
 abbrev pub settings_in : List Setting → Settings
 settings_in set = record {
   policy = policy_in set;
   version = number_in Version set;
+  group = number_in Group set;
   cycles = number_in Cycles set;
   seed = number_in Seed set;
   loss = number_in Loss set;

@@ -1,8 +1,8 @@
 //! A deck in the grammar, as its records give it.
 
-ghost use Rattle.std.specs.Prelude.{◌≡◌, ◌<◌, ◌≤◌, [], length, get_or, slice_get, IfSome, Some};
+ghost use Rattle.std.specs.Prelude.{◌≡◌, ◌<◌, ◌≤◌, [], length, get_or, slice_get, IfOk, IfSome, Some};
 ghost use Rattle.air_base.specs.declared.limits.TheConstants.{MOST_ASKED, MOST_DISKS, MOST_EVENTS, MOST_FREQ, MOST_ITEMS, MOST_QUERIES, MOST_RATE, MOST_READERS, MOST_REPLANS, MOST_SIZE, MOST_STARTS, MOST_UPDATERS};
-ghost use Rattle.air_model.specs.Decks.{IsDeck, updates_by};
+ghost use Rattle.air_model.specs.Decks.{IsDeck, updates_by, values_in};
 ghost use Rattle.item_catalog.specs.DeckLimits.{WithinLimits, script_starts};
 
 pub(crate) mod draft;
@@ -11,8 +11,10 @@ pub mod replans;
 
 use crate::deck::replans::{Replan, freq_at};
 use crate::parts::{DiskPart, ItemPart, Queries, ReplanPart, Updates};
+use air_base::NoMemory;
 use air_history::Update;
 use air_model::deck::{ReaderPlan, Settings};
+use std::alloc::Global;
 use std::marker::Model;
 
 /// A deck in the grammar.
@@ -66,6 +68,17 @@ impl Deck {
         ensures { IfSome (slice_get self.now.items i) (λ item. result ≡ item.value) }
     {
         self.items[i as usize].value
+    }
+
+    /// The values of the items, in their order.
+    pub fn values(&self, alloc: Global) -> Result<Vec<u64>, NoMemory>
+        ensures { IfOk result (λ values. values.items ≡ values_in self.now) }
+    {
+        let mut values = Vec::new(alloc);
+        for i in 0..self.items() {
+            values.push(self.value(i))?;
+        }
+        Ok(values)
     }
 
     /// The rate of an item.
@@ -172,7 +185,7 @@ impl Deck {
         self.queries[r as usize].as_slice()[q as usize].as_slice()
     }
 
-    /// The number of the script's parts.
+    /// The number of script parts.
     pub fn script_len(&self) -> u32
         ensures told { result ≡ length self.now.script }
         ensures few { result ≤ MOST_EVENTS }
@@ -180,7 +193,7 @@ impl Deck {
         self.script.len() as u32
     }
 
-    /// A part of the script: a start, or the number of the updater that commits its next update.
+    /// A script part: a start, or the number of the updater that commits its next update.
     pub fn script(&self, k: u32) -> Option<u32>
         requires { k < length self.now.script }
         ensures { slice_get self.now.script k ≡ Some result }

@@ -28,7 +28,7 @@ pub enum FaultKind {
     Unread,
     /// The tag is unknown.
     Tag,
-    /// The setting is unknown, was set before, or has no such value.
+    /// The setting is unknown, was set before, or has no such value; or there are groups with a policy that has none.
     Setting,
     /// An updater commits more updates than it has.
     Overdrawn,
@@ -70,7 +70,7 @@ const SENTENCES: [&str; 14] = [
     "a limit is passed, or there is no item or no disk",
     "a base isn't among the reads",
     "its tag is unknown",
-    "its setting is unknown, was set before, or has no such value",
+    "its setting is unknown, was set before, or has no such value; or there are groups, and the policy isn't F",
     "an updater commits more updates than it has",
     "there is a fault",
     "the sizes and the frequencies of a replan aren't as many",

@@ -1,4 +1,4 @@
-//! The parts of a deck that other crates have no type for, and what the record of a disk says of its frequency.
+//! What records declare that other crates have no type for, and what the record of a disk says of its frequency.
 
 ghost use Rattle.std.specs.Prelude.{◌≡◌, ◌≤◌, ◌++◌, ◌∷◌, [], All, false, length, is_ok, sum_by, if◌then◌else◌};
 ghost use Rattle.std.specs.List.{list_any};

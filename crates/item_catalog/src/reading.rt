@@ -1,4 +1,4 @@
-//! Decks read from texts: the tag of a record, and one pass over the records, each read once and not kept.
+//! Decks read from texts: the tag of a record, and one walk over the records, each read once and not kept.
 
 ghost use Rattle.std.specs.Prelude.{◌≡◌, ◌≤◌, drop, length, IfErr, IfOk, None};
 ghost use Rattle.csv.specs.Records.{fields_of};
@@ -66,7 +66,7 @@ pub(crate) fn read_tag(fields: &ByteRecord) -> Option<Tag>
     }
 }
 
-/// The deck of the parts, if no kind applies at the end, which is the record of this number.
+/// The deck of the draft, if no kind applies at the end, which is the record of this number.
 fn finish(draft: Draft, row: u32) -> Result<Deck, DeckError>
     requires { CanEnd draft }
     ensures deck { IfOk result (λ deck. (first_of (end_tests (length draft.items) draft.disks draft.replans draft.set) ≡ None) × (deck ≡ deck_from draft)) }

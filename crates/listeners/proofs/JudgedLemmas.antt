@@ -1,4 +1,4 @@
--- A piece that was judged once: what its notes say, and what a listener is after the members of a run that it doesn't want.
+-- A piece that was judged once: what its notes say, and what a listener is after the members of a stretch that it doesn't want.
 -- The calls of `judged`, and `Listener::hear_from`, cite these.
 use Rattle.std.proofs.Common.{◌≡◌, ◌≢◌, ℕ, zero, suc, ◌+◌, ◌-◌, ◌<◌, ◌≤◌, max, Option, Some, None, Result, Ok, Err, List, [], ◌∷◌, ◌++◌, length, map, get_or, set, take, drop, All, refl, sym, ◌∙◌, ap, subst, inl, inr, arith}
 use Rattle.std.specs.Prelude.{IfSome, IsTrue}
@@ -17,9 +17,9 @@ use Rattle.air_model.specs.Sessions.{Reader, SessionLine, State, query_of, read_
 use Rattle.air_model.specs.SessionLaws.{IsUnwanted, after, dozed_through}
 use Rattle.receiver_core.specs.Receivers.{IsSettled, Receiver}
 use Rattle.listeners.specs.declared.judged.JudgedPiece.{JudgedPiece}
-use Rattle.listeners.specs.declared.judged.Run.{Run}
+use Rattle.listeners.specs.declared.judged.Stretch.{Stretch}
 use Rattle.listeners.specs.Listeners.{Listener, hears}
-use Rattle.listeners.specs.Private.JudgedPieces.{AreNoted, AreRuns, BeginsRun, FitsInCycle, IsJudged, IsRun, NotesItem, member_at}
+use Rattle.listeners.specs.Private.JudgedPieces.{AreItemsOf, AreStretches, BeginsStretch, FitsInCycle, IsJudged, IsStretch, TellsItem, member_at}
 use Rattle.listeners.specs.Private.Sleeping.{listening}
 use Rattle.listeners.proofs.SleepLemmas.{each_on, slept_through}
 
@@ -32,52 +32,52 @@ own_item item c (Idle count) is = tt
 own_item item c (Column i value entries) is = sym is
 own_item item c (Vector i value entries) is = sym is
 
-pub noted_more : (heard : List (Result Bucket BucketFault)) (items : List ℕ) (i item : ℕ) (x : Result Bucket BucketFault) → length items ≡ i → i < length heard → x ≡ get_or heard i x → NotesItem item x
-    → ((k n : ℕ) (d : Result Bucket BucketFault) → k < i → NotesItem (get_or items k n) (get_or heard k d))
-    → (k n : ℕ) (d : Result Bucket BucketFault) → k < i + 1 → NotesItem (get_or (items ++ item ∷ []) k n) (get_or heard k d)
-noted_more heard items i item x long inside here own so_far k n d below = elim (cases_lt k i) as (λ _. NotesItem (get_or (items ++ item ∷ []) k n) (get_or heard k d)) [
-  | inl less ↦ subst (λ m. NotesItem m (get_or heard k d)) (sym (get_or_append_left items (item ∷ []) n k (omega (arith, less, long)))) (so_far k n d less)
+pub noted_more : (heard : List (Result Bucket BucketFault)) (items : List ℕ) (i item : ℕ) (x : Result Bucket BucketFault) → length items ≡ i → i < length heard → x ≡ get_or heard i x → TellsItem item x
+    → ((k n : ℕ) (d : Result Bucket BucketFault) → k < i → TellsItem (get_or items k n) (get_or heard k d))
+    → (k n : ℕ) (d : Result Bucket BucketFault) → k < i + 1 → TellsItem (get_or (items ++ item ∷ []) k n) (get_or heard k d)
+noted_more heard items i item x long inside here own so_far k n d below = elim (cases_lt k i) as (λ _. TellsItem (get_or (items ++ item ∷ []) k n) (get_or heard k d)) [
+  | inl less ↦ subst (λ m. TellsItem m (get_or heard k d)) (sym (get_or_append_left items (item ∷ []) n k (omega (arith, less, long)))) (so_far k n d less)
   | inr past ↦
       let last : i ≡ k = omega arith in
-      subst (λ m. NotesItem m (get_or heard k d)) (sym (get_or_push items item n k (long ∙ last)))
-      (subst (λ j. NotesItem item (get_or heard j d)) last (subst (NotesItem item) (here ∙ get_or_default heard i x d inside) own))
+      subst (λ m. TellsItem m (get_or heard k d)) (sym (get_or_push items item n k (long ∙ last)))
+      (subst (λ j. TellsItem item (get_or heard j d)) last (subst (TellsItem item) (here ∙ get_or_default heard i x d inside) own))
 ]
 
--- ---- runs
+-- ---- stretches
 
--- A run over no members.
-pub no_run : (air : Air) (heard : List (Result Bucket BucketFault)) (i : ℕ) (run : Run) → i ≤ length heard → run.len ≡ 0 → IsRun air heard i run
-no_run air heard i run within none = record { within = omega arith; fitting = λ j d l. absurd (omega arith) }
+-- A stretch over no members.
+pub no_run : (air : Air) (heard : List (Result Bucket BucketFault)) (i : ℕ) (stretch : Stretch) → i ≤ length heard → stretch.len ≡ 0 → IsStretch air heard i stretch
+no_run air heard i stretch within none = record { within = omega arith; fitting = λ j d l. absurd (omega arith) }
 
--- The run that begins with the member before.
-pub run_more : (air : Air) (heard : List (Result Bucket BucketFault)) (i : ℕ) (x : Result Bucket BucketFault) (next run : Run) → i < length heard → x ≡ get_or heard i x
-    → IsRun air heard (i + 1) next → BeginsRun air x next run → IsRun air heard i run
-run_more air heard i x next run inside here after begins = record { within = (let most = after.within in let longer = begins.longer in omega arith); fitting = fitting }
+-- The stretch that begins with the member before.
+pub run_more : (air : Air) (heard : List (Result Bucket BucketFault)) (i : ℕ) (x : Result Bucket BucketFault) (next stretch : Stretch) → i < length heard → x ≡ get_or heard i x
+    → IsStretch air heard (i + 1) next → BeginsStretch air x next stretch → IsStretch air heard i stretch
+run_more air heard i x next stretch inside here after begins = record { within = (let most = after.within in let longer = begins.longer in omega arith); fitting = fitting }
   where
-    fitting : (j : ℕ) (d : Result Bucket BucketFault) → j < run.len → FitsInCycle air run.cycle (get_or heard (i + j) d)
+    fitting : (j : ℕ) (d : Result Bucket BucketFault) → j < stretch.len → FitsInCycle air stretch.cycle (get_or heard (i + j) d)
     fitting zero d l =
         let own : i + 0 ≡ i = omega arith in
-        subst (λ k. FitsInCycle air run.cycle (get_or heard k d)) (sym own) (subst (FitsInCycle air run.cycle) (here ∙ get_or_default heard i x d inside) (begins.fitting l))
+        subst (λ k. FitsInCycle air stretch.cycle (get_or heard k d)) (sym own) (subst (FitsInCycle air stretch.cycle) (here ∙ get_or_default heard i x d inside) (begins.fitting l))
     fitting (suc j) d l =
         let place : i + 1 + j ≡ i + suc j = omega arith in
         let longer = begins.longer in
-        subst (λ k. FitsInCycle air run.cycle (get_or heard k d)) place
+        subst (λ k. FitsInCycle air stretch.cycle (get_or heard k d)) place
         (subst (λ c. FitsInCycle air c (get_or heard (i + 1 + j) d)) (begins.same (omega arith)) (after.fitting j d (omega arith)))
 
--- From a place on each member has the run that begins with it.
-pub record RunsFrom (air : Air) (heard : List (Result Bucket BucketFault)) (runs : List Run) (i : ℕ) : Type 0 where
-  pub long : length runs ≡ length heard
-  pub each : (k : ℕ) (d : Run) → i ≤ k → k < length heard → IsRun air heard k (get_or runs k d)
+-- From a place on each member has the stretch that begins with it.
+pub record RunsFrom (air : Air) (heard : List (Result Bucket BucketFault)) (stretches : List Stretch) (i : ℕ) : Type 0 where
+  pub long : length stretches ≡ length heard
+  pub each : (k : ℕ) (d : Stretch) → i ≤ k → k < length heard → IsStretch air heard k (get_or stretches k d)
 
-pub runs_more : (air : Air) (heard : List (Result Bucket BucketFault)) (runs : List Run) (i : ℕ) (run : Run) → i < length heard → RunsFrom air heard runs (i + 1) → IsRun air heard i run
-    → RunsFrom air heard (set runs i run) i
-runs_more air heard runs i run inside from here = record { long = length-set runs i run ∙ from.long; each = each }
+pub runs_more : (air : Air) (heard : List (Result Bucket BucketFault)) (stretches : List Stretch) (i : ℕ) (stretch : Stretch) → i < length heard → RunsFrom air heard stretches (i + 1) → IsStretch air heard i stretch
+    → RunsFrom air heard (set stretches i stretch) i
+runs_more air heard stretches i stretch inside from here = record { long = length-set stretches i stretch ∙ from.long; each = each }
   where
-    each : (k : ℕ) (d : Run) → i ≤ k → k < length heard → IsRun air heard k (get_or (set runs i run) k d)
-    each k d least below = elim (cases_lt i k) as (λ _. IsRun air heard k (get_or (set runs i run) k d)) [
-      | inl less ↦ subst (IsRun air heard k) (sym (get_or-set_other runs i k run d (λ same. absurd (omega arith)))) (from.each k d (omega arith) below)
+    each : (k : ℕ) (d : Stretch) → i ≤ k → k < length heard → IsStretch air heard k (get_or (set stretches i stretch) k d)
+    each k d least below = elim (cases_lt i k) as (λ _. IsStretch air heard k (get_or (set stretches i stretch) k d)) [
+      | inl less ↦ subst (IsStretch air heard k) (sym (get_or-set_other stretches i k stretch d (λ same. absurd (omega arith)))) (from.each k d (omega arith) below)
       | inr past ↦ let same : i ≡ k = omega arith in
-          subst (λ m. IsRun air heard m (get_or (set runs i run) m d)) same (subst (IsRun air heard i) (sym (get_or-set_same runs i run d (omega (arith, from.long)))) here)
+          subst (λ m. IsStretch air heard m (get_or (set stretches i stretch) m d)) same (subst (IsStretch air heard i) (sym (get_or-set_same stretches i stretch d (omega (arith, from.long)))) here)
     ]
 
 -- ---- members by their places
@@ -133,34 +133,34 @@ other_read w item None other own = tt
 other_read None item (Some x) other own = λ is. cc
 other_read (Some i) item (Some x) other own = λ is. other (let same : i ≡ x.item = cc in sym own ∙ sym same)
 
-unwanted_one : (air : Air) (reader : Reader) (s : State) (c item : ℕ) (h : Result Bucket BucketFault) → FitsInCycle air c h → NotesItem item h → IfSome (wanted reader s) (λ i. item ≢ i)
+unwanted_one : (air : Air) (reader : Reader) (s : State) (c item : ℕ) (h : Result Bucket BucketFault) → FitsInCycle air c h → TellsItem item h → IfSome (wanted reader s) (λ i. item ≢ i)
     → IsUnwanted air reader s (bucket_or h)
 unwanted_one air reader s c item (Ok b) fit own other = record { fitting = fit.0; other = other_read (wanted reader s) item (read_in b.cycle b.body) other own }
 unwanted_one air reader s c item (Err fault) fit own other = absurd fit
 
--- A settled receiver sleeps through the first members of a run, if it wants none of them.
-pub run_slept : (n : ℕ) (L : List SessionLine) (old now : Receiver) (piece : JudgedPiece) (i k : ℕ) (run : Run) → IsSettled old → IsJudged old.air piece → i < length piece.heard.items
-    → run ≡ get_or piece.runs.items i run → 0 < k → k ≤ run.len → ((j : ℕ) → j < k → IfSome (wanted old.reader old.state) (λ w. get_or piece.items.items (i + j) 0 ≢ w))
-    → now.air ≡ old.air → now.reader ≡ old.reader → now.state ≡ dozed_through k (max old.state.now run.cycle) old.state
+-- A settled receiver sleeps through the first members of a stretch, if it wants none of them.
+pub run_slept : (n : ℕ) (L : List SessionLine) (old now : Receiver) (piece : JudgedPiece) (i k : ℕ) (stretch : Stretch) → IsSettled old → IsJudged old.air piece → i < length piece.heard.items
+    → stretch ≡ get_or piece.stretches.items i stretch → 0 < k → k ≤ stretch.len → ((j : ℕ) → j < k → IfSome (wanted old.reader old.state) (λ w. get_or piece.items.items (i + j) 0 ≢ w))
+    → now.air ≡ old.air → now.reader ≡ old.reader → now.state ≡ dozed_through k (max old.state.now stretch.cycle) old.state
     → listening n now L ≡ hears (map (member_at piece.heard.items) (range_with_len i k)) (listening n old L)
 unfolding wanted query_of
-run_slept n L old now piece i k run settled judged inside here some within other air reader state =
+run_slept n L old now piece i k stretch settled judged inside here some within other air reader state =
     let heard = piece.heard.items in
     let none : Result Bucket BucketFault = Err Magic in
     let on : ℕ → Bucket = λ q. bucket_or (get_or heard q none) in
     let B = map on (range_with_len i k) in
     let t = after L old.state in
-    slept_through n L old now run.cycle k B settled some (length-map-range_with_len on i k)
-    (each_on on (λ b. b.cycle ≡ run.cycle) i k (λ j l. in_cycle old.air run.cycle (get_or heard (i + j) none) (fitting j (omega arith))))
-    (each_on on (IsUnwanted old.air old.reader t) i k (λ j l. unwanted_one old.air old.reader t run.cycle (get_or piece.items.items (i + j) 0) (get_or heard (i + j) none) (fitting j (omega arith))
+    slept_through n L old now stretch.cycle k B settled some (length-map-range_with_len on i k)
+    (each_on on (λ b. b.cycle ≡ stretch.cycle) i k (λ j l. in_cycle old.air stretch.cycle (get_or heard (i + j) none) (fitting j (omega arith))))
+    (each_on on (IsUnwanted old.air old.reader t) i k (λ j l. unwanted_one old.air old.reader t stretch.cycle (get_or piece.items.items (i + j) 0) (get_or heard (i + j) none) (fitting j (omega arith))
     (judged.items.each (i + j) 0 none (let most = own.within in omega arith)) (other j l)))
     air reader state
     ∙ ap (λ os. hears os (listening n old L)) (map-map Some on (range_with_len i k)
     ∙ sym (same_on (member_at heard) (λ q. Some (on q)) i k
-    (λ j l. member_is heard (i + j) none (let most = own.within in omega arith) ∙ is_bucket old.air run.cycle (get_or heard (i + j) none) (fitting j (omega arith)))))
+    (λ j l. member_is heard (i + j) none (let most = own.within in omega arith) ∙ is_bucket old.air stretch.cycle (get_or heard (i + j) none) (fitting j (omega arith)))))
   where
-    own : IsRun old.air piece.heard.items i run
-    own = subst (IsRun old.air piece.heard.items i) (sym here) (judged.runs.each i run inside)
+    own : IsStretch old.air piece.heard.items i stretch
+    own = subst (IsStretch old.air piece.heard.items i) (sym here) (judged.stretches.each i stretch inside)
 
-    fitting : (j : ℕ) → j < run.len → FitsInCycle old.air run.cycle (get_or piece.heard.items (i + j) (Err Magic))
+    fitting : (j : ℕ) → j < stretch.len → FitsInCycle old.air stretch.cycle (get_or piece.heard.items (i + j) (Err Magic))
     fitting j l = own.fitting j (Err Magic) l

@@ -1,5 +1,5 @@
 -- A deck's readers, each of which has heard a list of its own: their numbers and sessions; and what a perfect ether gives.
--- The calls of `apart`, `hearers` and `runs` cite these, and crates above.
+-- The calls of `apart`, `hearers` and `whole_tapes` cite these, and crates above.
 use Rattle.std.proofs.Common.{◌≡◌, ℕ, zero, suc, ◌+◌, ◌*◌, List, [], ◌∷◌, length, map, refl, sym, ◌∙◌, ap}
 use Rattle.std.specs.List.{range_with_len}
 use Rattle.std.proofs.lemmas.List.FromFn.{length-map-range_with_len}

@@ -13,7 +13,7 @@ use Rattle.air_model.specs.Buckets.{Bucket, IsInRange, bucket_in}
 use Rattle.air_model.specs.Decks.{Deck}
 use Rattle.listeners.specs.declared.ethers.TheConstants.{MOST_TAPE_RECORDS}
 use Rattle.listeners.specs.declared.judged.JudgedPiece.{JudgedPiece}
-use Rattle.listeners.specs.declared.together.TogetherRun.{TogetherRun}
+use Rattle.listeners.specs.declared.together.TogetherReader.{TogetherReader}
 use Rattle.listeners.specs.EtherListeners.{IsPerfect}
 use Rattle.listeners.specs.Hearings.{AreTogether}
 use Rattle.listeners.specs.Listeners.{Listener, hears, listener_of}
@@ -25,11 +25,11 @@ use Rattle.listeners.proofs.RunLemmas.{clear_heard, ethers_in, readers_over}
 
 -- ---- pieces
 
-abbrev listener_in : TogetherRun → Listener
-listener_in run = run.listener
+abbrev listener_in : TogetherReader → Listener
+listener_in reader = reader.listener
 
--- What runs heard side by side, their listeners heard.
-pub each_heard : (members : List (Option Bucket)) (before now : List TogetherRun) → EachHeard members before now → All (λ run. run.done ≡ true) now → listeners_in now ≡ map (hears members) (listeners_in before)
+-- What readers heard side by side, their listeners heard.
+pub each_heard : (members : List (Option Bucket)) (before now : List TogetherReader) → EachHeard members before now → All (λ reader. reader.done ≡ true) now → listeners_in now ≡ map (hears members) (listeners_in before)
 unfolding HasHeardMembers
 each_heard members before now each done =
     let size : length (map listener_in now) ≡ length before = length-map now listener_in ∙ each.0 in
@@ -38,23 +38,23 @@ each_heard members before now each done =
   where
     one : (k : ℕ) (d : Listener) → k < length before → get_or (map listener_in now) k d ≡ get_or (map (hears members) (map listener_in before)) k d
     one k d below =
-        let run : TogetherRun = record { listener = d; done = true } in
+        let reader : TogetherReader = record { listener = d; done = true } in
         let inside : k < length now = omega (arith, each.0) in
         let within : k < length (map listener_in before) = omega (arith, length-map before listener_in) in
-        get_or-map listener_in now k run d inside ∙ (each.1 k run below).0 (done k run inside) ∙ ap (hears members) (sym (get_or-map listener_in before k run d below))
+        get_or-map listener_in now k reader d inside ∙ (each.1 k reader below).0 (done k reader inside) ∙ ap (hears members) (sym (get_or-map listener_in before k reader d below))
         ∙ sym (get_or-map (hears members) (map listener_in before) k d d within)
 
 -- Each knows the air that it knew.
-pub each_knows : (air : Air) (members : List (Option Bucket)) (before now : List TogetherRun) → EachHeard members before now → All (KnowsAir air) before → All (KnowsAir air) now
+pub each_knows : (air : Air) (members : List (Option Bucket)) (before now : List TogetherReader) → EachHeard members before now → All (KnowsAir air) before → All (KnowsAir air) now
 unfolding HasHeardMembers
 each_knows air members before now each known = λ k d below. let inside : k < length before = omega (arith, each.0) in (each.1 k d inside).1 ∙ known k d inside
 
 -- A deck's readers know its air.
-pub all_know : (deck : Deck) (air : Air) (runs : List TogetherRun) (n : ℕ) → air ≡ air_of deck → listeners_in runs ≡ map (listener_of deck) (range_with_len 0 n) → All (KnowsAir air) runs
-all_know deck air runs n is are = λ k d below.
-    let long : length runs ≡ n = sym (length-map runs listener_in) ∙ ap length are ∙ length-map-range_with_len (listener_of deck) 0 n in
+pub all_know : (deck : Deck) (air : Air) (readers : List TogetherReader) (n : ℕ) → air ≡ air_of deck → listeners_in readers ≡ map (listener_of deck) (range_with_len 0 n) → All (KnowsAir air) readers
+all_know deck air readers n is are = λ k d below.
+    let long : length readers ≡ n = sym (length-map readers listener_in) ∙ ap length are ∙ length-map-range_with_len (listener_of deck) 0 n in
     let own : get_or (map (listener_of deck) (range_with_len 0 n)) k d.listener ≡ listener_of deck k = get_or-map-range_with_len (listener_of deck) 0 n k k d.listener (omega (arith, below, long)) (omega arith) in
-    ap (λ (l : Listener). l.air) (sym (get_or-map listener_in runs k d d.listener below) ∙ ap (λ ls. get_or ls k d.listener) are ∙ own) ∙ sym is
+    ap (λ (l : Listener). l.air) (sym (get_or-map listener_in readers k d d.listener below) ∙ ap (λ ls. get_or ls k d.listener) are ∙ own) ∙ sym is
 
 -- To hear one list and then another is to hear both.
 pub map_pieces : (first second : List (Option Bucket)) (A : List Listener) → map (hears second) (map (hears first) A) ≡ map (hears (first ++ second)) A
@@ -67,7 +67,7 @@ room_left so_far n all A within room =
     All-map (HasRoom n) (hears so_far) A (λ k d below. let counted = counted_all so_far (get_or A k d) in let most = room k d below in omega (arith, counted, most, within))
 
 -- So all can hear the next piece.
-pub can_hear : (records : List (List ℕ)) (so_far : List (Option Bucket)) (air : Air) (piece : JudgedPiece) (rest : List (Option Bucket)) (before now : List TogetherRun)
+pub can_hear : (records : List (List ℕ)) (so_far : List (Option Bucket)) (air : Air) (piece : JudgedPiece) (rest : List (Option Bucket)) (before now : List TogetherReader)
     → All (HasRoom (length records)) (listeners_in before) → map bucket_in records ≡ so_far ++ (map result_ok piece.heard.items ++ rest) → listeners_in now ≡ map (hears so_far) (listeners_in before)
     → All (λ heard. IfOk heard IsInRange) piece.heard.items → IsJudged air piece → All (KnowsAir air) now → All (CanHear piece) now
 unfolding CanHear

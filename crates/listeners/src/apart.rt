@@ -76,26 +76,6 @@ fn are_done(readers: &[PieceReader]) -> bool
     readers.iter().all(|run| run.done)
 }
 
-/// Lets all readers hear a piece, side by side, if there is memory for each.
-fn hear_apart<T: Threads + Sync>(
-    threads: &T,
-    alloc: Global,
-    planned: &Planned,
-    readers: &mut [PieceReader],
-    piece: &[u8],
-) -> Result<(), NoMemory>
-    requires whole { (tape_read piece.now).cut ≡ None }
-    requires room { All (λ r. length r ≤ HEAD_BYTES + entry_len planned.now.settings.version * length planned.now.items) (tape_read piece.now).records }
-    requires few { (pushed : List (List ℕ)) × AreApart planned.now pushed readers.old × (length pushed + length (tape_read piece.now).records ≤ MOST_TAPE_RECORDS) }
-    ensures { (pushed : List (List ℕ)) → AreApart planned.now pushed readers.old → OnOk result (AreApart planned.now (pushed ++ (tape_read piece.now).records) readers.new) }
-{
-    hear_side_by_side(threads, alloc, readers, piece);
-    if !are_done(readers) {
-        return Err(NoMemory);
-    }
-    Ok(())
-}
-
 /// Lets all readers hear the rest of their ethers, side by side.
 fn end_side_by_side<T: Threads + Sync>(threads: &T, alloc: Global, readers: &mut [PieceReader])
     requires { All IsOpenStill readers.old }
@@ -173,7 +153,10 @@ impl Apart {
         ensures { (pushed : List (List ℕ)) → AreApart planned.now pushed self.old.readers.items →
             OnOk result (AreApart planned.now (pushed ++ (tape_read piece.now).records) self.new.readers.items) }
     {
-        hear_apart(threads, alloc, planned, &mut self.readers, piece)?;
+        hear_side_by_side(threads, alloc, &mut self.readers, piece);
+        if !are_done(&self.readers) {
+            return Err(NoMemory);
+        }
         Ok(())
     }
 

@@ -1,4 +1,4 @@
-//! A cycle on the air, heard from the board that airs it: a bucket is encoded only where a reader opens it.
+//! A cycle on the air, heard from its source, a board or a board by groups: a bucket is encoded only where a reader opens it.
 //!
 //! A reader takes its verdicts, and sleeps until the wanted item's next slot; that slot's bucket is encoded, and it hears it. So a
 //! cycle costs a reader its wanted airings, and not the slots.
@@ -20,10 +20,9 @@ ghost use Rattle.listeners.specs.Private.Sleeping.{listening};
 
 use crate::listener::Listener;
 use air_base::{Form, NoMemory};
-use air_sender::encode_slot;
+use air_sender::{Source, encode_source};
 use bucket_codec::decode;
 use chunk_program::Program;
-use control_matrix::Board;
 use receiver_core::Receiver;
 use std::alloc::Global;
 
@@ -43,10 +42,10 @@ fn wait_from(program: &Program, slot: u32, wanted: Option<u16>) -> u32
 }
 
 /// A settled receiver sleeps through the slots of a cycle from this one on, up to the next wanted one, or to the end: the slot that is next.
-pub(crate) fn sleep(
+pub(crate) fn sleep<S: Source>(
     receiver: &mut Receiver,
     program: &Program,
-    board: &Board,
+    source: &S,
     form: Form,
     slot: u32,
 ) -> u32
@@ -54,28 +53,28 @@ pub(crate) fn sleep(
     requires slot { slot < length (slots_of program.now.disks) }
     requires counts { heard_count receiver.old.state.counts + (length (slots_of program.now.disks) - slot) < 2 ^ 64 }
     requires items { length (all_items program.now.disks) ≡ receiver.old.air.items }
-    requires fitting { AreFitting receiver.old.air form program.now.edition (slots_of program.now.disks) board.now }
+    requires fitting { AreFitting receiver.old.air form program.now.edition (slots_of program.now.disks) (S.board source.now) }
     ensures next { (slot ≤ result) × (result ≤ length (slots_of program.now.disks)) }
     ensures settled { IsSettled receiver.new }
     ensures air { receiver.new.air ≡ receiver.old.air }
     ensures reader { receiver.new.reader ≡ receiver.old.reader }
     ensures counts { heard_count receiver.new.state.counts ≡ heard_count receiver.old.state.counts + (result - slot) }
     ensures slept { (n : ℕ) (L : List SessionLine) → listening n receiver.new L
-        ≡ hears (map (λ s. Some (bucket_on form program.now.edition (slots_of program.now.disks) board.now s)) (range_with_len slot (result - slot))) (listening n receiver.old L) }
+        ≡ hears (map (λ s. Some (bucket_on form program.now.edition (slots_of program.now.disks) (S.board source.now) s)) (range_with_len slot (result - slot))) (listening n receiver.old L) }
 {
     let wait = wait_from(program, slot, receiver.wanted());
     if wait == 0 {
         return slot;
     }
-    receiver.doze(u64::from(wait), board.cycle());
+    receiver.doze(u64::from(wait), source.its_cycle());
     slot + wait
 }
 
 /// A settled receiver hears the bucket of a slot.
-pub(crate) fn hear_slot(
+pub(crate) fn hear_slot<S: Source>(
     receiver: &mut Receiver,
     program: &Program,
-    board: &Board,
+    source: &S,
     form: Form,
     slot: u32,
     buf: &mut [u8],
@@ -84,75 +83,78 @@ pub(crate) fn hear_slot(
     requires counts { heard_count receiver.old.state.counts + 1 < 2 ^ 64 }
     requires slot { slot < length (slots_of program.now.disks) }
     requires version { (form.version ≡ 1) ⊎ (form.version ≡ 2) }
-    requires few { length board.now.values ≤ most_count form.version }
-    requires started { 1 ≤ board.now.cycle }
-    requires below { EntriesBelow board.now }
-    requires items { length (all_items program.now.disks) ≡ length board.now.values }
-    requires room { HEAD_BYTES + entry_len form.version * length board.now.values ≤ length buf.old }
+    requires few { length (S.board source.now).values ≤ most_count form.version }
+    requires started { 1 ≤ (S.board source.now).cycle }
+    requires below { EntriesBelow (S.board source.now) }
+    requires allowed { S.airs form.policy }
+    requires items { length (all_items program.now.disks) ≡ length (S.board source.now).values }
+    requires room { HEAD_BYTES + entry_len form.version * length (S.board source.now).values ≤ length buf.old }
     ensures air { receiver.new.air ≡ receiver.old.air }
     ensures reader { receiver.new.reader ≡ receiver.old.reader }
     ensures heard { (n : ℕ) (L : List SessionLine) → listening n receiver.new L
-        ≡ hears_one (Some (bucket_on form program.now.edition (slots_of program.now.disks) board.now slot)) (listening n receiver.old L) }
+        ≡ hears_one (Some (bucket_on form program.now.edition (slots_of program.now.disks) (S.board source.now) slot)) (listening n receiver.old L) }
     ensures buffer { length buf.new ≡ length buf.old }
 {
     let _slots = program.slots();
-    let len = encode_slot(program, board, form, slot, buf);
+    let len = encode_source(program, source, form, slot, buf);
     receiver.hear(&decode(&buf[..len]));
 }
 
-/// Lets a listener hear what a board airs in its cycle by a program.
-fn hear_cycle(
+/// Lets a listener hear what a source airs in its cycle by a program.
+fn hear_cycle<S: Source>(
     alloc: Global,
     listener: &mut Listener,
     program: &Program,
-    board: &Board,
+    source: &S,
     form: Form,
     buf: &mut [u8],
 ) -> Result<(), NoMemory>
     requires counts { heard_count listener.old.state.counts + length (slots_of program.now.disks) < 2 ^ 64 }
-    requires fitting { AreFitting listener.old.air form program.now.edition (slots_of program.now.disks) board.now }
+    requires fitting { AreFitting listener.old.air form program.now.edition (slots_of program.now.disks) (S.board source.now) }
     requires own { length (all_items program.now.disks) ≡ listener.old.air.items }
     requires version { (form.version ≡ 1) ⊎ (form.version ≡ 2) }
-    requires few { length board.now.values ≤ most_count form.version }
-    requires started { 1 ≤ board.now.cycle }
-    requires below { EntriesBelow board.now }
-    requires items { length (all_items program.now.disks) ≡ length board.now.values }
-    requires room { HEAD_BYTES + entry_len form.version * length board.now.values ≤ length buf.old }
-    ensures heard { OnOk result (listener.new ≡ hears (map (λ s. Some (bucket_on form program.now.edition (slots_of program.now.disks) board.now s)) (range_with_len 0 (length (slots_of program.now.disks)))) listener.old) }
+    requires few { length (S.board source.now).values ≤ most_count form.version }
+    requires started { 1 ≤ (S.board source.now).cycle }
+    requires below { EntriesBelow (S.board source.now) }
+    requires allowed { S.airs form.policy }
+    requires items { length (all_items program.now.disks) ≡ length (S.board source.now).values }
+    requires room { HEAD_BYTES + entry_len form.version * length (S.board source.now).values ≤ length buf.old }
+    ensures heard { OnOk result (listener.new ≡ hears (map (λ s. Some (bucket_on form program.now.edition (slots_of program.now.disks) (S.board source.now) s)) (range_with_len 0 (length (slots_of program.now.disks)))) listener.old) }
     ensures buffer { length buf.new ≡ length buf.old }
 {
     let mut slot = 0u32;
     while slot < program.slots() {
-        slot = listener.hear_stretch(alloc, program, board, form, slot, buf)?;
+        slot = listener.hear_stretch(alloc, program, source, form, slot, buf)?;
     }
     Ok(())
 }
 
-/// Lets all hear what a board airs in its cycle by a program, one reader after another, and gives them back. If memory runs out, they are
+/// Lets all hear what a source airs in its cycle by a program, one reader after another, and gives them back. If memory runs out, they are
 /// dropped. The buffer has room for a bucket's bytes.
-pub fn all_hear_cycle(
+pub fn all_hear_cycle<S: Source>(
     alloc: Global,
     listeners: Vec<Listener>,
     program: &Program,
-    board: &Board,
+    source: &S,
     form: Form,
     buf: &mut [u8],
 ) -> Result<Vec<Listener>, NoMemory>
     requires counts { All (λ l. heard_count l.state.counts + length (slots_of program.now.disks) < 2 ^ 64) listeners.items }
-    requires fitting { All (λ l. AreFitting l.air form program.now.edition (slots_of program.now.disks) board.now) listeners.items }
+    requires fitting { All (λ l. AreFitting l.air form program.now.edition (slots_of program.now.disks) (S.board source.now)) listeners.items }
     requires own { All (λ l. length (all_items program.now.disks) ≡ l.air.items) listeners.items }
     requires version { (form.version ≡ 1) ⊎ (form.version ≡ 2) }
-    requires few { length board.now.values ≤ most_count form.version }
-    requires started { 1 ≤ board.now.cycle }
-    requires below { EntriesBelow board.now }
-    requires items { length (all_items program.now.disks) ≡ length board.now.values }
-    requires room { HEAD_BYTES + entry_len form.version * length board.now.values ≤ length buf.old }
-    ensures heard { IfOk result (λ ls. ls.items ≡ map (hears (map (λ s. Some (bucket_on form program.now.edition (slots_of program.now.disks) board.now s)) (range_with_len 0 (length (slots_of program.now.disks))))) listeners.items) }
+    requires few { length (S.board source.now).values ≤ most_count form.version }
+    requires started { 1 ≤ (S.board source.now).cycle }
+    requires below { EntriesBelow (S.board source.now) }
+    requires allowed { S.airs form.policy }
+    requires items { length (all_items program.now.disks) ≡ length (S.board source.now).values }
+    requires room { HEAD_BYTES + entry_len form.version * length (S.board source.now).values ≤ length buf.old }
+    ensures heard { IfOk result (λ ls. ls.items ≡ map (hears (map (λ s. Some (bucket_on form program.now.edition (slots_of program.now.disks) (S.board source.now) s)) (range_with_len 0 (length (slots_of program.now.disks))))) listeners.items) }
     ensures buffer { length buf.new ≡ length buf.old }
 {
     let mut listeners = listeners;
     for listener in listeners.iter_mut() {
-        hear_cycle(alloc, listener, program, board, form, buf)?;
+        hear_cycle(alloc, listener, program, source, form, buf)?;
     }
     Ok(listeners)
 }

@@ -14,7 +14,7 @@ ghost use Rattle.air_model.specs.Tapes.{tape_read};
 ghost use Rattle.bucket_codec.specs.declared.offsets.TheConstants.{HEAD_BYTES};
 ghost use Rattle.listeners.specs.declared.ethers.TheConstants.{MOST_TAPE_RECORDS};
 ghost use Rattle.listeners.specs.EtherListeners.{IsPerfect};
-ghost use Rattle.listeners.specs.Hearings.{AreHearing, AreTogether};
+ghost use Rattle.listeners.specs.Hearings.{AreHearing};
 
 use crate::apart::Apart;
 use crate::readers::Sessions;
@@ -81,7 +81,10 @@ impl Hearers {
             ≡ counts_lines (sessions_over (by_entries (scheme_in planned.now)) planned.now (λ r. heard_by planned.now.settings.seed r (odds_in planned.now) pushed))) }
     {
         match self {
-            Hearers::Together(together) => end_together(alloc, planned, together),
+            Hearers::Together(together) => {
+                let sessions = together.end(alloc)?;
+                Ok(sessions)
+            }
             Hearers::Apart(apart) => apart.end(threads, alloc, planned),
         }
     }
@@ -93,16 +96,4 @@ pub fn is_perfect(deck: &Deck) -> bool
 {
     let set = deck.settings();
     set.loss == 0 && set.again == 0 && set.late == 0
-}
-
-/// Ends the sessions of readers who heard the pieces together.
-fn end_together(alloc: Global, planned: &Planned, together: Together) -> Result<Sessions, NoMemory>
-    requires { (pushed : List (List ℕ)) × AreTogether planned.now pushed together }
-    ensures verdicts { (pushed : List (List ℕ)) → AreTogether planned.now pushed together → IfOk result (λ s. s.verdicts.items
-        ≡ verdict_lines (sessions_over (by_entries (scheme_in planned.now)) planned.now (λ r. heard_by planned.now.settings.seed r (odds_in planned.now) pushed))) }
-    ensures counts { (pushed : List (List ℕ)) → AreTogether planned.now pushed together → IfOk result (λ s. s.counts.items
-        ≡ counts_lines (sessions_over (by_entries (scheme_in planned.now)) planned.now (λ r. heard_by planned.now.settings.seed r (odds_in planned.now) pushed))) }
-{
-    let sessions = together.end(alloc)?;
-    Ok(sessions)
 }

@@ -14,7 +14,7 @@ ghost use Rattle.bucket_codec.specs.declared.offsets.TheConstants.{HEAD_BYTES};
 ghost use Rattle.listeners.specs.declared.ethers.TheConstants.{MOST_TAPE_RECORDS};
 
 use crate::readers::Sessions;
-use crate::runs::ether_sessions;
+use crate::whole_tapes::ether_sessions;
 use air_base::NoMemory;
 use chunk_program::Planned;
 use std::alloc::Global;

@@ -1,15 +1,15 @@
 //! A piece of a tape, judged once for all readers of a deck.
 //!
-//! Each member has a note: the item that it carries, and how many members from there on fit the deck and are of one cycle. A reader
-//! looks through the notes for the next member that it wants, and only counts those before it. So what no reader wants costs each of
-//! them a look at its note.
+//! What is judged of each member is the item that it carries, and how many members from there on fit the deck and are of one cycle. A
+//! reader looks through the items for the next member that it wants, and only counts those before it. So a member that no reader
+//! wants costs each of them a comparison of its item.
 
 ghost use Rattle.std.specs.Prelude.{◌≡◌, ◌≢◌, ℕ, ◌<◌, ◌≤◌, ◌+◌, ◌-◌, ◌^◌, All, List, IfOk, IfSome, length, map, get_or};
 ghost use Rattle.std.specs.List.{range_with_len};
 ghost use Rattle.air_model.specs.Sessions.{SessionLine};
 ghost use Rattle.receiver_core.specs.Receivers.{IsSettled, heard_count};
 ghost use Rattle.listeners.specs.Listeners.{hears};
-ghost use Rattle.listeners.specs.Private.JudgedPieces.{AreNoted, AreRuns, BeginsRun, IsJudged, NotesItem, member_at};
+ghost use Rattle.listeners.specs.Private.JudgedPieces.{AreItemsOf, AreStretches, BeginsStretch, IsJudged, TellsItem, member_at};
 ghost use Rattle.listeners.specs.Private.Sleeping.{listening};
 
 use air_base::NoMemory;
@@ -18,30 +18,30 @@ use bucket_codec::BucketView;
 use receiver_core::{Air, Receiver};
 use std::alloc::Global;
 
-/// The note of what is no bucket; that of an idle slot is the same.
+/// The item of what is no bucket; that of an idle slot is the same.
 const NO_ITEM: u16 = u16::MAX;
 
 /// How many members from a place on are buckets that fit, and their cycle.
 #[derive(Clone, Copy, Debug)]
-pub(crate) struct Run {
+pub(crate) struct Stretch {
     pub len: usize,
     pub cycle: u32,
 }
 
 /// No members.
-const NO_RUN: Run = Run { len: 0, cycle: 0 };
+const NO_STRETCH: Stretch = Stretch { len: 0, cycle: 0 };
 
-/// The members of a piece, and their notes.
+/// The members of a piece, with what is judged of each.
 #[derive(Drop)]
 pub(crate) struct JudgedPiece<'a> {
     pub heard: Vec<Result<BucketView<'a>, BucketFault>>,
     pub items: Vec<u16>,
-    pub runs: Vec<Run>,
+    pub stretches: Vec<Stretch>,
 }
 
 /// The item of a member, if it is a bucket with one.
 fn item_in(heard: &Result<BucketView<'_>, BucketFault>) -> u16
-    ensures { NotesItem result heard.now }
+    ensures { TellsItem result heard.now }
 {
     match heard {
         Ok(bucket) => bucket.item(),
@@ -54,7 +54,7 @@ fn items_of(
     alloc: Global,
     heard: &[Result<BucketView<'_>, BucketFault>],
 ) -> Result<Vec<u16>, NoMemory>
-    ensures { IfOk result (λ items. AreNoted heard.now items.items) }
+    ensures { IfOk result (λ items. AreItemsOf heard.now items.items) }
 {
     let mut items = Vec::with_capacity(alloc, heard.len())?;
     for member in heard {
@@ -63,51 +63,55 @@ fn items_of(
     Ok(items)
 }
 
-/// The run that begins with a member, by the one that begins after it.
-fn run_before(air: &Air, heard: &Result<BucketView<'_>, BucketFault>, next: Run) -> Run
+/// The stretch that begins with a member, by the one that begins after it.
+fn stretch_before(air: &Air, heard: &Result<BucketView<'_>, BucketFault>, next: Stretch) -> Stretch
     requires { next.len + 1 < 2 ^ 64 }
-    ensures { BeginsRun air.now heard.now next result }
+    ensures { BeginsStretch air.now heard.now next result }
 {
     let Ok(bucket) = heard else {
-        return NO_RUN;
+        return NO_STRETCH;
     };
     if !air.fits(bucket) {
-        return NO_RUN;
+        return NO_STRETCH;
     }
     let cycle = bucket.cycle();
     let len = if next.cycle == cycle { next.len + 1 } else { 1 };
-    Run { len, cycle }
+    Stretch { len, cycle }
 }
 
-/// Finds the run that begins with each member, the last first.
-fn find_runs(air: &Air, heard: &[Result<BucketView<'_>, BucketFault>], runs: &mut [Run])
-    requires { length runs.old ≡ length heard.now }
-    ensures { AreRuns air.now heard.now runs.new }
+/// Finds the stretch that begins with each member, the last first.
+fn find_stretches(
+    air: &Air,
+    heard: &[Result<BucketView<'_>, BucketFault>],
+    stretches: &mut [Stretch],
+)
+    requires { length stretches.old ≡ length heard.now }
+    ensures { AreStretches air.now heard.now stretches.new }
 {
-    let mut next = NO_RUN;
+    let mut next = NO_STRETCH;
     let mut place = heard.len();
     while place > 0 {
         place -= 1;
-        next = run_before(air, &heard[place], next);
-        runs[place] = next;
+        next = stretch_before(air, &heard[place], next);
+        stretches[place] = next;
     }
 }
 
-/// The run that begins with each member.
-fn runs_of(
+/// The stretch that begins with each member.
+fn stretches_of(
     alloc: Global,
     air: &Air,
     heard: &[Result<BucketView<'_>, BucketFault>],
-) -> Result<Vec<Run>, NoMemory>
-    ensures { IfOk result (λ runs. AreRuns air.now heard.now runs.items) }
+) -> Result<Vec<Stretch>, NoMemory>
+    ensures { IfOk result (λ stretches. AreStretches air.now heard.now stretches.items) }
 {
-    let mut runs = vec![in alloc; NO_RUN; heard.len()]?;
-    find_runs(air, heard, &mut runs);
-    Ok(runs)
+    let mut stretches = vec![in alloc; NO_STRETCH; heard.len()]?;
+    find_stretches(air, heard, &mut stretches);
+    Ok(stretches)
 }
 
 impl<'a> JudgedPiece<'a> {
-    /// The members of a piece with their notes, for readers who know this air.
+    /// The members of a piece, judged for readers who know this air.
     pub fn new(
         alloc: Global,
         air: &Air,
@@ -117,8 +121,12 @@ impl<'a> JudgedPiece<'a> {
         ensures heard { IfOk result (λ piece. piece.heard.items ≡ heard.entry.items) }
     {
         let items = items_of(alloc, &heard)?;
-        let runs = runs_of(alloc, air, &heard)?;
-        Ok(JudgedPiece { heard, items, runs })
+        let stretches = stretches_of(alloc, air, &heard)?;
+        Ok(JudgedPiece {
+            heard,
+            items,
+            stretches,
+        })
     }
 }
 
@@ -145,7 +153,7 @@ fn first_of(items: &[u16], item: u16) -> usize
     place
 }
 
-/// A settled receiver sleeps through the run that begins at a place, up to the next wanted member, or to the run's end: the place that is next.
+/// A settled receiver sleeps through the stretch that begins at a place, up to the next wanted member, or to the stretch's end: the place that is next.
 pub(crate) fn sleep_in(receiver: &mut Receiver, piece: &JudgedPiece<'_>, from: usize) -> usize
     requires settled { IsSettled receiver.old }
     requires from { from < length piece.now.heard.items }
@@ -159,11 +167,11 @@ pub(crate) fn sleep_in(receiver: &mut Receiver, piece: &JudgedPiece<'_>, from: u
     ensures slept { (n : ℕ) (L : List SessionLine) → listening n receiver.new L
         ≡ hears (map (member_at piece.now.heard.items) (range_with_len from (result - from))) (listening n receiver.old L) }
 {
-    let run = piece.runs[from];
-    let wait = wait_in(&piece.items[from..from + run.len], receiver.wanted());
+    let stretch = piece.stretches[from];
+    let wait = wait_in(&piece.items[from..from + stretch.len], receiver.wanted());
     if wait == 0 {
         return from;
     }
-    receiver.doze(wait as u64, run.cycle);
+    receiver.doze(wait as u64, stretch.cycle);
     from + wait
 }

@@ -15,14 +15,14 @@ pub mod laws;
 mod listener;
 mod pieces;
 mod readers;
-mod runs;
 mod together;
 mod verdicts;
+mod whole_tapes;
 
 pub use cycles::all_hear_cycle;
 pub use hearers::{Hearers, is_perfect};
 pub use histories::history_sessions;
 pub use listener::Listener;
 pub use readers::{Sessions, all_hear, end_all, listeners_of};
-pub use runs::ether_sessions;
 pub use together::Together;
+pub use whole_tapes::ether_sessions;

@@ -24,9 +24,9 @@ use crate::verdicts::{SessionLine, end_queries, take_verdicts};
 use air_base::{Counts, Form, NoMemory};
 use air_model::bucket::BucketFault;
 use air_model::reports::{CountsLine, VerdictLine};
+use air_sender::Source;
 use bucket_codec::BucketView;
 use chunk_program::{Planned, Program};
-use control_matrix::Board;
 use receiver_core::Receiver;
 use std::alloc::Global;
 use std::marker::Model;
@@ -79,43 +79,44 @@ impl Listener {
         Ok(())
     }
 
-    /// Takes the verdicts before the bucket of a slot, and hears what a board airs in its cycle from this slot on, up to the next wanted
+    /// Takes the verdicts before the bucket of a slot, and hears what a source airs in its cycle from this slot on, up to the next wanted
     /// bucket, or to the end: the slot after.
-    pub(crate) fn hear_stretch(
+    pub(crate) fn hear_stretch<S: Source>(
         &mut self,
         alloc: Global,
         program: &Program,
-        board: &Board,
+        source: &S,
         form: Form,
         slot: u32,
         buf: &mut [u8],
     ) -> Result<u32, NoMemory>
         requires slot { slot < length (slots_of program.now.disks) }
         requires counts { heard_count self.old.state.counts + (length (slots_of program.now.disks) - slot) < 2 ^ 64 }
-        requires fitting { AreFitting self.old.air form program.now.edition (slots_of program.now.disks) board.now }
+        requires fitting { AreFitting self.old.air form program.now.edition (slots_of program.now.disks) (S.board source.now) }
         requires own { length (all_items program.now.disks) ≡ self.old.air.items }
         requires version { (form.version ≡ 1) ⊎ (form.version ≡ 2) }
-        requires few { length board.now.values ≤ most_count form.version }
-        requires started { 1 ≤ board.now.cycle }
-        requires below { EntriesBelow board.now }
-        requires items { length (all_items program.now.disks) ≡ length board.now.values }
-        requires room { HEAD_BYTES + entry_len form.version * length board.now.values ≤ length buf.old }
+        requires few { length (S.board source.now).values ≤ most_count form.version }
+        requires started { 1 ≤ (S.board source.now).cycle }
+        requires below { EntriesBelow (S.board source.now) }
+        requires allowed { S.airs form.policy }
+        requires items { length (all_items program.now.disks) ≡ length (S.board source.now).values }
+        requires room { HEAD_BYTES + entry_len form.version * length (S.board source.now).values ≤ length buf.old }
         ensures next { IfOk result (λ next. (slot < next) × (next ≤ length (slots_of program.now.disks))) }
         ensures heard { IfOk result (λ next. self.new
-            ≡ hears (map (λ s. Some (bucket_on form program.now.edition (slots_of program.now.disks) board.now s)) (range_with_len slot (next - slot))) self.old) }
+            ≡ hears (map (λ s. Some (bucket_on form program.now.edition (slots_of program.now.disks) (S.board source.now) s)) (range_with_len slot (next - slot))) self.old) }
         ensures buffer { length buf.new ≡ length buf.old }
     {
         take_verdicts(alloc, &mut self.receiver, &mut self.lines)?;
-        let next = sleep(&mut self.receiver, program, board, form, slot);
+        let next = sleep(&mut self.receiver, program, source, form, slot);
         if next == program.slots() {
             return Ok(next);
         }
-        hear_slot(&mut self.receiver, program, board, form, next, buf);
+        hear_slot(&mut self.receiver, program, source, form, next, buf);
         Ok(next + 1)
     }
 
     /// Takes the verdicts before the member of a place, and hears a judged piece from there on, up to the next member that it wants, or
-    /// to the end of the run: the place after.
+    /// to the end of the piece: the place after.
     pub(crate) fn hear_from(
         &mut self,
         alloc: Global,

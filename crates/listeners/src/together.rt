@@ -29,12 +29,12 @@ use std::thread::Threads;
 
 /// A reader that hears pieces, and whether there was memory for the last of them.
 #[derive(Drop)]
-pub(crate) struct TogetherRun {
+pub(crate) struct TogetherReader {
     pub listener: Listener,
     pub done: bool,
 }
 
-impl TogetherRun {
+impl TogetherReader {
     /// Hears the members of a piece, or until memory runs out.
     #[tactic(auto, unfolding(crate::specs::Private::TogetherSteps::CanHear, crate::specs::Private::TogetherSteps::HasHeardMembers))]
     fn work(&mut self, alloc: Global, piece: &JudgedPiece<'_>)
@@ -49,40 +49,40 @@ impl TogetherRun {
 fn hear_side_by_side<T: Threads + Sync>(
     threads: &T,
     alloc: Global,
-    runs: &mut [TogetherRun],
+    readers: &mut [TogetherReader],
     piece: &JudgedPiece<'_>,
 )
-    requires { All (CanHear piece.now) runs.old }
-    ensures { EachHeard (map result_ok piece.now.heard.items) runs.old runs.new }
+    requires { All (CanHear piece.now) readers.old }
+    ensures { EachHeard (map result_ok piece.now.heard.items) readers.old readers.new }
 {
     thread::for_each_mut(
         threads,
-        runs,
+        readers,
         MOST_THREADS,
-        &|_, run| { run.work(alloc, piece) },
+        &|_, reader| { reader.work(alloc, piece) },
     );
 }
 
 /// Whether there was memory for each.
-fn are_done(runs: &[TogetherRun]) -> bool
-    ensures { IsTrue result ↔ All (λ run. run.done ≡ true) runs.now }
+fn are_done(readers: &[TogetherReader]) -> bool
+    ensures { IsTrue result ↔ All (λ reader. reader.done ≡ true) readers.now }
 {
-    runs.iter().all(|run| run.done)
+    readers.iter().all(|reader| reader.done)
 }
 
 /// Lets all hear the members of a piece, side by side, if there is memory for each.
 fn hear_members<T: Threads + Sync>(
     threads: &T,
     alloc: Global,
-    runs: &mut [TogetherRun],
+    readers: &mut [TogetherReader],
     piece: &JudgedPiece<'_>,
 ) -> Result<(), NoMemory>
-    requires { All (CanHear piece.now) runs.old }
-    ensures heard { OnOk result (listeners_in runs.new ≡ map (hears (map result_ok piece.now.heard.items)) (listeners_in runs.old)) }
-    ensures air { (air : Air) → All (KnowsAir air) runs.old → All (KnowsAir air) runs.new }
+    requires { All (CanHear piece.now) readers.old }
+    ensures heard { OnOk result (listeners_in readers.new ≡ map (hears (map result_ok piece.now.heard.items)) (listeners_in readers.old)) }
+    ensures air { (air : Air) → All (KnowsAir air) readers.old → All (KnowsAir air) readers.new }
 {
-    hear_side_by_side(threads, alloc, runs, piece);
-    if !are_done(runs) {
+    hear_side_by_side(threads, alloc, readers, piece);
+    if !are_done(readers) {
         return Err(NoMemory);
     }
     Ok(())
@@ -93,31 +93,34 @@ fn hear_pieces<T: Threads + Sync>(
     threads: &T,
     alloc: Global,
     air: &Air,
-    runs: &mut [TogetherRun],
+    readers: &mut [TogetherReader],
     tape: &[u8],
 ) -> Result<(), NoMemory>
     requires whole { (tape_read tape.now).cut ≡ None }
-    requires counts { All (λ l. heard_count l.state.counts + length (tape_read tape.now).records < 2 ^ 64) (listeners_in runs.old) }
-    requires air { All (KnowsAir air.now) runs.old }
-    ensures heard { OnOk result (listeners_in runs.new ≡ map (hears (map bucket_in (tape_read tape.now).records)) (listeners_in runs.old)) }
-    ensures air { All (KnowsAir air.now) runs.new }
+    requires counts { All (λ l. heard_count l.state.counts + length (tape_read tape.now).records < 2 ^ 64) (listeners_in readers.old) }
+    requires air { All (KnowsAir air.now) readers.old }
+    ensures heard { OnOk result (listeners_in readers.new ≡ map (hears (map bucket_in (tape_read tape.now).records)) (listeners_in readers.old)) }
+    ensures air { All (KnowsAir air.now) readers.new }
 {
     let mut records = TapeReader::new(tape);
     let mut piece = next_piece(alloc, air, &mut records)?;
     while !piece.heard.is_empty() {
-        hear_members(threads, alloc, runs, &piece)?;
+        hear_members(threads, alloc, readers, &piece)?;
         piece = next_piece(alloc, air, &mut records)?;
     }
     Ok(())
 }
 
-/// The listeners of all runs.
-fn listeners_of_runs(alloc: Global, runs: Vec<TogetherRun>) -> Result<Vec<Listener>, NoMemory>
-    ensures { IfOk result (λ ls. ls.items ≡ listeners_in runs.items) }
+/// The listeners of all readers.
+fn listeners_of_readers(
+    alloc: Global,
+    readers: Vec<TogetherReader>,
+) -> Result<Vec<Listener>, NoMemory>
+    ensures { IfOk result (λ ls. ls.items ≡ listeners_in readers.items) }
 {
     let mut listeners = Vec::new(alloc);
-    for run in runs {
-        let TogetherRun { listener, .. } = run;
+    for reader in readers {
+        let TogetherReader { listener, .. } = reader;
         listeners.push(listener)?;
     }
     Ok(listeners)
@@ -127,7 +130,7 @@ fn listeners_of_runs(alloc: Global, runs: Vec<TogetherRun>) -> Result<Vec<Listen
 #[derive(Drop)]
 pub struct Together {
     air: Air,
-    runs: Vec<TogetherRun>,
+    readers: Vec<TogetherReader>,
 }
 
 impl Model for Together {
@@ -136,12 +139,12 @@ impl Model for Together {
 
     ghost Value = { List Listener };
 
-    ghost view = { λ t. map (λ run. run.listener) t.runs.items };
+    ghost view = { λ t. map (λ reader. reader.listener) t.readers.items };
 
     ghost use Rattle.std.specs.Prelude.{All};
     ghost use Rattle.listeners.specs.Private.TogetherSteps.{KnowsAir};
 
-    ghost invariant = { λ t. All (KnowsAir t.air) t.runs.items };
+    ghost invariant = { λ t. All (KnowsAir t.air) t.readers.items };
 }
 
 impl Together {
@@ -150,14 +153,14 @@ impl Together {
         ensures { IfOk result (λ t. t ≡ map (listener_of planned.now) (range_with_len 0 (length planned.now.readers))) }
     {
         let air = Air::new(&PlannedRef::of(planned.deck(), planned.plans()))?;
-        let mut runs = Vec::new(alloc);
+        let mut readers = Vec::new(alloc);
         for r in 0..planned.deck().readers() {
-            runs.push(TogetherRun {
+            readers.push(TogetherReader {
                 listener: Listener::new(alloc, planned, r)?,
                 done: true,
             })?;
         }
-        Ok(Together { air, runs })
+        Ok(Together { air, readers })
     }
 
     /// Lets all hear the records of a tape, or of a piece of one. `TapeReader` tells whether a tape is whole.
@@ -171,7 +174,7 @@ impl Together {
         requires counts { All (λ l. heard_count l.state.counts + length (tape_read tape.now).records < 2 ^ 64) self.old }
         ensures { OnOk result (self.new ≡ map (hears (map bucket_in (tape_read tape.now).records)) self.old) }
     {
-        hear_pieces(threads, alloc, &self.air, &mut self.runs, tape)?;
+        hear_pieces(threads, alloc, &self.air, &mut self.readers, tape)?;
         Ok(())
     }
 
@@ -181,7 +184,7 @@ impl Together {
         ensures verdicts { IfOk result (λ s. s.verdicts.items ≡ verdict_lines (map end_state self)) }
         ensures counts { IfOk result (λ s. s.counts.items ≡ counts_lines (map end_state self)) }
     {
-        let listeners = listeners_of_runs(alloc, self.runs)?;
+        let listeners = listeners_of_readers(alloc, self.readers)?;
         let sessions = end_all(alloc, listeners)?;
         Ok(sessions)
     }

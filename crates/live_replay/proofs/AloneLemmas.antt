@@ -17,7 +17,7 @@ use Rattle.air_history.proofs.HistoryLemmas.{descends_cases, descends_le, descen
 use Rattle.air_history.proofs.OriginLemmas.{origin_some}
 use Rattle.air_history.proofs.PlaceLemmas.{IsLast, any_at, last_place_from, last_place_is, place_at, place_from}
 use Rattle.live_replay.specs.Findings.{read_in_cycle}
-use Rattle.live_replay.specs.Private.Alone.{comes_late, is_after}
+use Rattle.live_replay.specs.Private.Alone.{overwrites_read, is_after}
 
 abbrev no_read : ReadAt
 no_read = read_in_cycle 0 0
@@ -92,18 +92,18 @@ module _ (H : List Event) where
     abbrev pub is_late_for : ℕ → ReadAt → Bool
     is_late_for p r = writes (event_at H p) r.item && is_after (origin H r) p
 
-    pub late_here : (p n : ℕ) (d : ReadAt) → n < length R → is_late_for p (get_or R n d) ≡ true → comes_late H R p ≡ true
+    pub late_here : (p n : ℕ) (d : ReadAt) → n < length R → is_late_for p (get_or R n d) ≡ true → overwrites_read H R p ≡ true
     late_here p n d l e = list_any_at (is_late_for p) R n d l e
 
-    pub late_more : (p n : ℕ) (d : ReadAt) → n < length R → comes_late H (take n R) p ≡ false → is_late_for p (get_or R n d) ≡ false → comes_late H (take (n + 1) R) p ≡ false
+    pub late_more : (p n : ℕ) (d : ReadAt) → n < length R → overwrites_read H (take n R) p ≡ false → is_late_for p (get_or R n d) ≡ false → overwrites_read H (take (n + 1) R) p ≡ false
     late_more p n d l so_far here =
-        ap (list_any (is_late_for p)) (take_more R n d l) ∙ list_any-append (is_late_for p) (take n R) (get_or R n d ∷ []) ∙ neither (comes_late H (take n R) p) (is_late_for p (get_or R n d)) so_far here
+        ap (list_any (is_late_for p)) (take_more R n d l) ∙ list_any-append (is_late_for p) (take n R) (get_or R n d ∷ []) ∙ neither (overwrites_read H (take n R) p) (is_late_for p (get_or R n d)) so_far here
       where
         neither : (a b : Bool) → a ≡ false → b ≡ false → (a || (b || false)) ≡ false
         neither a b e f = rw (e, f) refl
 
-    pub late_none : (p n : ℕ) → length R ≤ n → comes_late H (take n R) p ≡ false → comes_late H R p ≡ false
-    late_none p n all h = ap (λ S. comes_late H S p) (sym (take_all n R all)) ∙ h
+    pub late_none : (p n : ℕ) → length R ≤ n → overwrites_read H (take n R) p ≡ false → overwrites_read H R p ≡ false
+    late_none p n all h = ap (λ S. overwrites_read H S p) (sym (take_all n R all)) ∙ h
 
     -- ---- when reads are consistent
 
@@ -121,13 +121,13 @@ module _ (H : List Event) where
         )
 
     -- Reads are consistent if no commit that runs alone comes late.
-    pub consistent_from : ((q : ℕ) → runs_alone H R q ≡ true → comes_late H R q ≡ false) → consistent H R ≡ true
+    pub consistent_from : ((q : ℕ) → runs_alone H R q ≡ true → overwrites_read H R q ≡ false) → consistent H R ≡ true
     unfolding last_alone
     consistent_from none = (consistent_decides H R).1 (λ k d l.
         let r = get_or R k d in
         last_place_from (length H) (λ p. runs_alone H R p && writes (event_at H p) r.item) (origin H r)
         (last_origin r (origin H r) refl (λ q e. alone_origin q k d l e) (λ q a. false_from_ne_true _ (λ late.
-        both_ways (comes_late H R q) (none q a) (list_any_at (λ r. writes (event_at H q) r.item && is_after (origin H r) q) R k d l late)))))
+        both_ways (overwrites_read H R q) (none q a) (list_any_at (λ r. writes (event_at H q) r.item && is_after (origin H r) q) R k d l late)))))
 
     late_apart : (i q : ℕ) (o : Option ℕ) → last_alone H R i ≡ o → runs_alone H R q ≡ true → writes (event_at H q) i ≡ true → is_after o q ≡ true → ⊥
     unfolding last_alone
@@ -139,7 +139,7 @@ module _ (H : List Event) where
         both_ways (runs_alone H R q && writes (event_at H q) i) (is.2 q (ltb-true o q after) (writes_within H q i w)) (and_from _ _ a w)
 
     -- They aren't if one does.
-    pub consistent_fails : (q : ℕ) → runs_alone H R q ≡ true → comes_late H R q ≡ true → consistent H R ≡ false
+    pub consistent_fails : (q : ℕ) → runs_alone H R q ≡ true → overwrites_read H R q ≡ true → consistent H R ≡ false
     consistent_fails q a late = false_from_ne_true _ (λ h.
         let f = any_at (λ r. writes (event_at H q) r.item && is_after (origin H r) q) R no_read late in
         let both = and_parts _ _ f.2 in

@@ -51,6 +51,8 @@ pub small_is_deck : IsDeck small
 small_is_deck = record {
   some = pair_is_deck.some;
   version = pair_is_deck.version;
+  group = pair_is_deck.group;
+  grouped = pair_is_deck.grouped;
   most = pair_is_deck.most;
   values = pair_is_deck.values;
   sizes = pair_is_deck.sizes;

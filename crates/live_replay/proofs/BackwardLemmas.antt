@@ -16,7 +16,7 @@ use Rattle.air_history.proofs.MarkLemmas.{Forgets, IsOpen, Seeks, writes_some}
 use Rattle.air_history.proofs.PlaceLemmas.{any_at}
 use Rattle.air_history.proofs.ScanLemmas.{before_more}
 use Rattle.live_replay.specs.Findings.{read_in_cycle}
-use Rattle.live_replay.specs.Private.Alone.{comes_late, first_or_none, is_after, is_met}
+use Rattle.live_replay.specs.Private.Alone.{overwrites_read, first_or_none, is_after, is_met}
 use Rattle.live_replay.proofs.AloneLemmas.{alone_below, alone_closed, alone_origin, alone_step, consistent_from}
 use Rattle.live_replay.proofs.SoughtLemmas.{not_written, read_sought, sought_read, writes_are, written_one}
 
@@ -37,27 +37,35 @@ IsMet H at p item = (w : ℕ) × (writer_before H p item ≡ Some w) × (at ≤ 
 abbrev pub IsOpenOrMet : List Event → ℕ → List Bool → ℕ → ℕ → Type 0
 IsOpenOrMet H at sought p item = IsOpen H at sought p item ⊎ IsMet H at p item
 
--- The pass has come down to `at`: what is looked for is awaited, what the commits from `at` on read is looked for or met, and none of
--- those that run alone comes late.
-pub record IsPassed (H : List Event) (R : List ReadAt) (at : ℕ) (sought : List Bool) : Type 0 where
+-- The pass has come down to `at`: what is looked for is awaited, and what the commits from `at` on read is looked for or met.
+pub record IsWalked (H : List Event) (R : List ReadAt) (at : ℕ) (sought : List Bool) : Type 0 where
   pub just : (item : ℕ) → IsTrue (get_or sought item false) → IsAwaited H R at item
   pub settled : (p n : ℕ) → at ≤ p → IsTrue (runs_alone H R p) → n < length (reads (event_at H p)) → IsOpenOrMet H at sought p (get_or (reads (event_at H p)) n 0)
-  pub none_late : (q : ℕ) → at ≤ q → IsTrue (runs_alone H R q) → comes_late H R q ≡ false
+
+-- The pass has come down to `at`, and none of the commits that run alone comes late.
+pub record IsPassed (H : List Event) (R : List ReadAt) (at : ℕ) (sought : List Bool) : Type 0 where
+  pub walked : IsWalked H R at sought
+  pub none_late : (q : ℕ) → at ≤ q → IsTrue (runs_alone H R q) → overwrites_read H R q ≡ false
 
 one_writer : (o : Option ℕ) (v w : ℕ) → o ≡ Some v → o ≡ Some w → v ≡ w
 one_writer o v w e f = cc
 
 module _ (H : List Event) (R : List ReadAt) where
   -- Nothing runs alone after the last origin.
-  pub passed_none : (end : ℕ) (clear : List Bool) → ((i : ℕ) → get_or clear i false ≡ false) → All (λ o. IfSome o (λ w. w < end)) (map (origin H) R) → IsPassed H R end clear
-  passed_none end clear none all = record {
+  pub walked_none : (end : ℕ) (clear : List Bool) → ((i : ℕ) → get_or clear i false ≡ false) → All (λ o. IfSome o (λ w. w < end)) (map (origin H) R) → IsWalked H R end clear
+  walked_none end clear none all = record {
     just = λ item h. absurd (both_ways (get_or clear item false) (none item) h);
     settled = λ p n above a l. absurd (let below = alone_below H R end p all a in omega arith);
+  }
+
+  pub passed_none : (end : ℕ) (clear : List Bool) → ((i : ℕ) → get_or clear i false ≡ false) → All (λ o. IfSome o (λ w. w < end)) (map (origin H) R) → IsPassed H R end clear
+  passed_none end clear none all = record {
+    walked = walked_none end clear none all;
     none_late = λ q above a. absurd (let below = alone_below H R end q all a in omega arith);
   }
 
   -- A place that is met runs alone.
-  pub met_alone : (at : ℕ) (sought : List Bool) → is_met H (map (origin H) R) at sought ≡ true → IsPassed H R (at + 1) sought → runs_alone H R at ≡ true
+  pub met_alone : (at : ℕ) (sought : List Bool) → is_met H (map (origin H) R) at sought ≡ true → IsWalked H R (at + 1) sought → runs_alone H R at ≡ true
   met_alone at sought met m = elim (or_cases (list_any (λ o. same_place o (Some at)) (map (origin H) R)) _ met) as (λ _. runs_alone H R at ≡ true) [
     | inl an_origin ↦ (let f = any_at (λ o. same_place o (Some at)) (map (origin H) R) None an_origin in
         let l : f.0 < length R = omega (arith, f.1, length-map R (origin H)) in
@@ -70,7 +78,7 @@ module _ (H : List Event) (R : List ReadAt) where
   ]
 
   -- A place that isn't met doesn't.
-  unmet : (at : ℕ) (sought : List Bool) → is_met H (map (origin H) R) at sought ≡ false → IsPassed H R (at + 1) sought → runs_alone H R at ≡ true → ⊥
+  pub unmet : (at : ℕ) (sought : List Bool) → is_met H (map (origin H) R) at sought ≡ false → IsWalked H R (at + 1) sought → runs_alone H R at ≡ true → ⊥
   unmet at sought miss m a = elim (alone_step H R at a) as (λ _. ⊥) [
     | inl o ↦ (let d : ReadAt = read_in_cycle 0 0 in
         both_ways (list_any (λ o. same_place o (Some at)) (map (origin H) R)) neither.0
@@ -89,28 +97,34 @@ module _ (H : List Event) (R : List ReadAt) where
           both_ways (writes (event_at H at) item) (not_written (event_at H at) sought item neither.1 o.looked) (writer_before_some H (at + 1) item at wrote).1
       by p b f (inr w) = let e : w.0 ≡ at = one_writer (writer_before H p (get_or (reads (event_at H p)) f.nth 0)) w.0 at w.1 f.wrote in let far = w.2 in omega arith
 
-  pub passed_skip : (at : ℕ) (sought : List Bool) → is_met H (map (origin H) R) at sought ≡ false → IsPassed H R (at + 1) sought → IsPassed H R at sought
-  passed_skip at sought miss m = record {
+  -- So what is known there is known of the places from it on.
+  later : (at : ℕ) (sought : List Bool) → is_met H (map (origin H) R) at sought ≡ false → IsWalked H R (at + 1) sought → (p : ℕ) → at ≤ p → IsTrue (runs_alone H R p) → at + 1 ≤ p
+  later at sought miss m p above a = elim (cases_eq p at) as (λ _. at + 1 ≤ p) [
+    | inl same ↦ absurd (unmet at sought miss m (subst (λ q. runs_alone H R q ≡ true) same a))
+    | inr other ↦ omega arith
+  ]
+
+  pub walked_skip : (at : ℕ) (sought : List Bool) → is_met H (map (origin H) R) at sought ≡ false → IsWalked H R (at + 1) sought → IsWalked H R at sought
+  walked_skip at sought miss m = record {
     just = λ item h. let s = m.just item h in record { reader = s.reader; alone = s.alone; nth = s.nth; within = s.within; is = s.is; same = s.same ∙ down item h };
-    settled = λ p n above a l. elim (m.settled p n (later p above a) a l) as (λ _. IsOpenOrMet H at sought p (get_or (reads (event_at H p)) n 0)) [
+    settled = λ p n above a l. elim (m.settled p n (later at sought miss m p above a) a l) as (λ _. IsOpenOrMet H at sought p (get_or (reads (event_at H p)) n 0)) [
       | inl o ↦ inl (record { looked = o.looked; same = o.same ∙ down (get_or (reads (event_at H p)) n 0) o.looked })
       | inr w ↦ inr (w.0, w.1, (let far = w.2 in omega arith))
     ];
-    none_late = λ q above a. m.none_late q (later q above a) a;
   }
     where
       down : (item : ℕ) → IsTrue (get_or sought item false) → writer_before H (at + 1) item ≡ writer_before H at item
       down item h = before_more H item at false (not_written (event_at H at) sought item (or_parts (list_any (λ o. same_place o (Some at)) (map (origin H) R)) (writes_some (event_at H at) sought) miss).1 h)
 
-      later : (p : ℕ) → at ≤ p → IsTrue (runs_alone H R p) → at + 1 ≤ p
-      later p above a = elim (cases_eq p at) as (λ _. at + 1 ≤ p) [
-        | inl same ↦ absurd (unmet at sought miss m (subst (λ q. runs_alone H R q ≡ true) same a))
-        | inr other ↦ omega arith
-      ]
+  pub passed_skip : (at : ℕ) (sought : List Bool) → is_met H (map (origin H) R) at sought ≡ false → IsPassed H R (at + 1) sought → IsPassed H R at sought
+  passed_skip at sought miss m = record {
+    walked = walked_skip at sought miss m.walked;
+    none_late = λ q above a. m.none_late q (later at sought miss m.walked q above a) a;
+  }
 
-  pub passed_more : (at : ℕ) (old mid new : List Bool) → runs_alone H R at ≡ true → comes_late H R at ≡ false → Forgets (event_at H at) old mid → Seeks (event_at H at) mid new →
-      IsPassed H R (at + 1) old → IsPassed H R at new
-  passed_more at old mid new alone on_time forgets seeks m = record {
+  pub walked_more : (at : ℕ) (old mid new : List Bool) → runs_alone H R at ≡ true → Forgets (event_at H at) old mid → Seeks (event_at H at) mid new →
+      IsWalked H R (at + 1) old → IsWalked H R at new
+  walked_more at old mid new alone forgets seeks m = record {
     just = λ item h. elim (or_cases (get_or mid item false) _ (sym (seeks item) ∙ h)) as (λ _. IsAwaited H R at item) [
       | inl was ↦ (let both = and_parts (get_or old item false) _ (sym (forgets item) ∙ was) in
           let s = m.just item both.0 in
@@ -128,10 +142,6 @@ module _ (H : List Event) (R : List ReadAt) where
         | inr w ↦ inr (w.0, w.1, (let far = w.2 in omega arith))
       ]
     ];
-    none_late = λ q above a. elim (cases_eq q at) as (λ _. comes_late H R q ≡ false) [
-      | inl same ↦ ap (comes_late H R) same ∙ on_time
-      | inr other ↦ m.none_late q (omega arith) a
-    ];
   }
     where
       still : (p item : ℕ) → IsOpen H (at + 1) old p item → (writes (event_at H at) item ≡ true) ⊎ (writes (event_at H at) item ≡ false) → IsOpenOrMet H at new p item
@@ -141,13 +151,23 @@ module _ (H : List Event) (R : List ReadAt) where
         same = o.same ∙ before_more H item at false w;
       })
 
+  pub passed_more : (at : ℕ) (old mid new : List Bool) → runs_alone H R at ≡ true → overwrites_read H R at ≡ false → Forgets (event_at H at) old mid → Seeks (event_at H at) mid new →
+      IsPassed H R (at + 1) old → IsPassed H R at new
+  passed_more at old mid new alone on_time forgets seeks m = record {
+    walked = walked_more at old mid new alone forgets seeks m.walked;
+    none_late = λ q above a. elim (cases_eq q at) as (λ _. overwrites_read H R q ≡ false) [
+      | inl same ↦ ap (overwrites_read H R) same ∙ on_time
+      | inr other ↦ m.none_late q (omega arith) a
+    ];
+  }
+
   not_after : (o : Option ℕ) (q : ℕ) → q < first_or_none o → is_after o q ≡ true → ⊥
   not_after None q l h = absurd (omega arith)
   not_after (Some w) q l h = let lt = ltb-true w q h in absurd (omega arith)
 
   -- Before the first origin nothing comes late, so the reads are consistent.
   pub passed_all : (first at : ℕ) (sought : List Bool) → at ≤ first → All (λ o. first ≤ first_or_none o) (map (origin H) R) → IsPassed H R at sought → consistent H R ≡ true
-  passed_all first at sought low all m = consistent_from H R (λ q a. elim (cases_lt q first) as (λ _. comes_late H R q ≡ false) [
+  passed_all first at sought low all m = consistent_from H R (λ q a. elim (cases_lt q first) as (λ _. overwrites_read H R q ≡ false) [
     | inl before ↦ false_from_ne_true _ (λ late.
         let d : ReadAt = read_in_cycle 0 0 in
         let f = any_at (λ r. writes (event_at H q) r.item && is_after (origin H r) q) R d late in

@@ -11,7 +11,7 @@ use Rattle.air_history.specs.Descents.{descends, descends_in}
 use Rattle.air_history.specs.Tables.{value_on_base, write_of, value_after, table}
 use Rattle.air_history.specs.Reads.{origin, stale}
 use Rattle.air_history.specs.Consistency.{descends_from, runs_alone, last_alone, consistent}
-use Rattle.air_history.specs.Clashes.{least, is_late, clash_by_history}
+use Rattle.air_history.specs.Clashes.{least, is_late, clash_by_history, group_clash}
 use Rattle.air_history.specs.ClashLaws.{passes}
 use Rattle.air_model.specs.Decks.{Deck, event_of, script_history}
 use Rattle.air_model.specs.Reports.{total_at}
@@ -133,3 +133,21 @@ pub record Chain : Type 0 where
 chain_is : Chain
 unfolding verdict_cause look_cause total_at all_pass is_refused is_clash spans_so passes is_late clash_by_history least stale origin consistent last_alone runs_alone descends_from descends descends_in writer writer_before writes reads is_start front last_place table value_after write_of value_on_base script_history event_of
 chain_is = record { apart = refl; abort = refl; passes = refl; together = refl; at_start = refl; later = refl; other_cycle = refl; catalog = refl }
+
+-- The deck airs by groups of this many items.
+abbrev by_groups : ℕ → Deck → Deck
+by_groups group d = record d { settings = record d.settings { group = group } }
+
+-- By groups item 1 clashes with item 0, which was written in its group, and a newer read has its own group asked.
+pub record Groups : Type 0 where
+  grouped : verdict_finding (by_groups 2 both) (Abort 1 2 0) (r 0 1 10 ∷ []) ≡ None
+  accepted : verdict_finding (by_groups 2 both) Accept (r 0 1 10 ∷ r 1 2 21 ∷ []) ≡ Some Verdict
+  newer : verdict_finding (by_groups 2 both) (Abort 1 1 0) (r 0 2 11 ∷ []) ≡ None
+  alone : verdict_finding (by_groups 1 both) Accept (r 0 1 10 ∷ r 1 2 21 ∷ []) ≡ None
+  alone_newer : verdict_finding (by_groups 1 both) (Abort 1 1 0) (r 0 2 11 ∷ []) ≡ Some Verdict
+  -- A group of the policies without columns is none.
+  vectors : verdict_finding (by_groups 2 (judged_by RMatrix both)) Accept (r 0 1 10 ∷ r 1 1 20 ∷ []) ≡ None
+
+groups : Groups
+unfolding verdict_cause all_pass is_refused is_clash spans_so passes is_late clash_by_history group_clash least stale origin consistent last_alone runs_alone descends_from descends descends_in writer writer_before writes reads is_start front last_place table value_after write_of value_on_base script_history event_of
+groups = record { grouped = refl; accepted = refl; newer = refl; alone = refl; alone_newer = refl; vectors = refl }

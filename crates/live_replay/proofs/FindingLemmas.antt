@@ -1,5 +1,5 @@
 -- When a line agrees: if and only if the replay gives it, which it does for every line of a session that the history judges.
-use Rattle.std.proofs.Common.{◌≡◌, ◌↔◌, ℕ, Bool, true, false, not, ◌&&◌, ◌==◌, if◌then◌else◌, Option, Some, None, List, [], ◌∷◌, ◌++◌, get_or, map, All, refl, sym, ◌∙◌, subst}
+use Rattle.std.proofs.Common.{◌≡◌, ◌↔◌, ℕ, Bool, true, false, not, ◌&&◌, ◌==◌, if◌then◌else◌, Option, Some, None, List, [], ◌∷◌, ◌++◌, length, get_or, map, All, refl, sym, ◌∙◌, subst}
 use Rattle.std.specs.Prelude.{IsSomeAnd, IfSome, IsTrue}
 use Rattle.std.specs.List.{list_all}
 use Rattle.std.specs.Option.{is_some, option_map_or}
@@ -9,13 +9,13 @@ use Rattle.std.proofs.lemmas.Simd.{map-map}
 use Rattle.std.proofs.lemmas.List.Elements.{All-map}
 use Rattle.std.proofs.lemmas.List.Sums.{AllPass-from_list_all, list_all-from_AllPass}
 use Rattle.air_base.specs.declared.verdicts.Clash.{Clash}
-use Rattle.air_base.specs.declared.verdicts.Policy.{Policy}
 use Rattle.air_base.specs.declared.verdicts.VerdictKind.{VerdictKind}
 use Rattle.air_base.specs.declared.verdicts.VerdictKind.TheVariants.{Accept, Abort, Aged, Unfinished}
 use Rattle.air_history.specs.declared.histories.Event.{Event}
 use Rattle.air_history.specs.Tables.{values_of}
 use Rattle.air_history.specs.Reads.{ReadAt, read_value}
-use Rattle.air_history.specs.Clashes.{clash_by_history, is_late}
+use Rattle.air_history.specs.Columns.{Scheme}
+use Rattle.air_history.specs.Clashes.{clash_of, is_late}
 use Rattle.air_history.specs.ClashLaws.{Accepts}
 use Rattle.air_history.proofs.AcceptedLemmas.{accepts_none, accepts_push}
 use Rattle.air_model.specs.Aired.{air_of, scheme_in}
@@ -56,23 +56,23 @@ so_named : (o : Option Clash) (clash : ℕ) → IsSomeAnd o (λ held. held.item 
 so_named None clash h = absurd h
 so_named (Some held) clash h = (refl, eq-eqb held.item clash h)
 
-ends_from : (policy : Policy) (H : List Event) (R : List ReadAt) (kind : VerdictKind) → is_refused policy H R kind ≡ true → is_clash policy H R kind ≡ true → EndsSo policy H R kind
+ends_from : (scheme : Scheme) (n : ℕ) (H : List Event) (R : List ReadAt) (kind : VerdictKind) → is_refused scheme n H R kind ≡ true → is_clash scheme n H R kind ≡ true → EndsSo scheme n H R kind
 unfolding is_refused is_clash
-ends_from policy H R Accept refused clash = tt
-ends_from policy H R (Abort item cycle named) refused clash =
-    let both = and_parts (not (is_late policy R (read_in_cycle item cycle))) (is_some (clash_by_history policy H R (read_in_cycle item cycle))) refused in
-    (not-true _ both.0, named_so (clash_by_history policy H R (read_in_cycle item cycle)) named both.1 clash)
-ends_from policy H R (Aged item cycle) refused clash = not-true _ refused
-ends_from policy H R Unfinished refused clash = tt
+ends_from scheme n H R Accept refused clash = tt
+ends_from scheme n H R (Abort item cycle named) refused clash =
+    let both = and_parts (not (is_late scheme.policy R (read_in_cycle item cycle))) (is_some (clash_of scheme n H R (read_in_cycle item cycle))) refused in
+    (not-true _ both.0, named_so (clash_of scheme n H R (read_in_cycle item cycle)) named both.1 clash)
+ends_from scheme n H R (Aged item cycle) refused clash = not-true _ refused
+ends_from scheme n H R Unfinished refused clash = tt
 
-refused_from : (policy : Policy) (H : List Event) (R : List ReadAt) (kind : VerdictKind) → EndsSo policy H R kind → (is_refused policy H R kind ≡ true) × (is_clash policy H R kind ≡ true)
+refused_from : (scheme : Scheme) (n : ℕ) (H : List Event) (R : List ReadAt) (kind : VerdictKind) → EndsSo scheme n H R kind → (is_refused scheme n H R kind ≡ true) × (is_clash scheme n H R kind ≡ true)
 unfolding is_refused is_clash
-refused_from policy H R Accept end = (refl, refl)
-refused_from policy H R (Abort item cycle named) end =
-    let named = so_named (clash_by_history policy H R (read_in_cycle item cycle)) named end.1 in
+refused_from scheme n H R Accept end = (refl, refl)
+refused_from scheme n H R (Abort item cycle named) end =
+    let named = so_named (clash_of scheme n H R (read_in_cycle item cycle)) named end.1 in
     (and_from _ _ (not_from_false _ end.0) named.0, named.1)
-refused_from policy H R (Aged item cycle) end = (not_from_false _ end, refl)
-refused_from policy H R Unfinished end = (refl, refl)
+refused_from scheme n H R (Aged item cycle) end = (not_from_false _ end, refl)
+refused_from scheme n H R Unfinished end = (refl, refl)
 
 -- Reads that don't lie too far apart, if nothing or an abort ended the attempt.
 not_far : {A : Type 0} (b : Bool) → b ≡ false → b ≡ true → A
@@ -107,22 +107,22 @@ module _ (deck : Deck) (H : List Event) where
     λ none.
         let R = places_of line.reads in
         let kind = line.verdict.kind in
-        let ended = is_refused deck.settings.policy H R kind && spans_so deck.settings.version R kind in
-        let tests = chosen (list_all (has_value (values_in deck) H) line.reads) (all_pass deck.settings.policy H R && ended) (is_clash deck.settings.policy H R kind) none in
-        let both = and_parts (all_pass deck.settings.policy H R) ended tests.1 in
-        let last = and_parts (is_refused deck.settings.policy H R kind) (spans_so deck.settings.version R kind) both.1 in
+        let ended = is_refused (scheme_in deck) (length deck.items) H R kind && spans_so deck.settings.version R kind in
+        let tests = chosen (list_all (has_value (values_in deck) H) line.reads) (all_pass (scheme_in deck) (length deck.items) H R && ended) (is_clash (scheme_in deck) (length deck.items) H R kind) none in
+        let both = and_parts (all_pass (scheme_in deck) (length deck.items) H R) ended tests.1 in
+        let last = and_parts (is_refused (scheme_in deck) (length deck.items) H R kind) (spans_so deck.settings.version R kind) both.1 in
         record {
           values = λ k d l. eqb-true _ _ (AllPass-from_list_all (has_value (values_in deck) H) line.reads tests.0 k d l);
-          accepts = pass_accepts deck.settings.policy H R both.0;
-          end = ends_from deck.settings.policy H R kind last.0 tests.2;
+          accepts = pass_accepts (scheme_in deck) (length deck.items) H R both.0;
+          end = ends_from (scheme_in deck) (length deck.items) H R kind last.0 tests.2;
           span = spans_from deck.settings.version R kind last.1;
         },
     λ gives.
         let R = places_of line.reads in
-        let end = refused_from deck.settings.policy H R line.verdict.kind gives.end in
+        let end = refused_from (scheme_in deck) (length deck.items) H R line.verdict.kind gives.end in
         none_chosen _ _ _
         (list_all-from_AllPass (has_value (values_in deck) H) line.reads (λ k d l. eq-eqb _ _ (gives.values k d l)))
-        (and_from _ _ (accepts_pass deck.settings.policy H R gives.accepts) (and_from _ _ end.0 (from_spans deck.settings.version R line.verdict.kind gives.span))) end.1,
+        (and_from _ _ (accepts_pass (scheme_in deck) (length deck.items) H R gives.accepts) (and_from _ _ end.0 (from_spans deck.settings.version R line.verdict.kind gives.span))) end.1,
   )
 
   pub look_agrees : (line : LookLine) → (look_cause deck H line ≡ None) ↔ GivesLook deck H line
@@ -136,21 +136,21 @@ module _ (deck : Deck) (H : List Event) where
   -- ---- the lines of a session
 
   abbrev judging : Judge
-  judging = by_history (scheme_in deck) (values_in deck) H
+  judging = by_history (scheme_in deck) (length deck.items) (values_in deck) H
 
   places_in : (q a : ℕ) (kind : VerdictKind) (R : List Read) → places_of (line_of judging q a kind R).reads ≡ map judge.place_of R
   unfolding line_of
   places_in q a kind R = map-map _ _ R
 
-  gives_line : (r q a : ℕ) (kind : VerdictKind) (R : List Read) → Accepts deck.settings.policy H (map judge.place_of R) → EndsSo deck.settings.policy H (map judge.place_of R) kind →
+  gives_line : (r q a : ℕ) (kind : VerdictKind) (R : List Read) → Accepts (scheme_in deck) (length deck.items) H (map judge.place_of R) → EndsSo (scheme_in deck) (length deck.items) H (map judge.place_of R) kind →
       SpansSo deck.settings.version (map judge.place_of R) kind → verdict_cause deck H (line_by r (line_of judging q a kind R)) ≡ None
   unfolding line_of by_history
   gives_line r q a kind R accepts end span =
       let same : map judge.place_of R ≡ places_of (line_of judging q a kind R).reads = sym (places_in q a kind R) in
       (agrees (line_by r (line_of judging q a kind R))).1 (record {
         values = All-map (λ s. s.value ≡ read_value (values_of (values_in deck)) H (place_of_line s)) (λ (x : Read). record { item = x.item; cycle = x.cycle; value = read_value (values_of (values_in deck)) H (judge.place_of x) }) R (λ k d l. refl);
-        accepts = subst (Accepts deck.settings.policy H) same accepts;
-        end = subst (λ S. EndsSo deck.settings.policy H S kind) same end;
+        accepts = subst (Accepts (scheme_in deck) (length deck.items) H) same accepts;
+        end = subst (λ S. EndsSo (scheme_in deck) (length deck.items) H S kind) same end;
         span = subst (λ S. SpansSo deck.settings.version S kind) same span;
       })
 
@@ -163,7 +163,7 @@ module _ (deck : Deck) (H : List Event) where
       Any x = Unit {0}
 
       K : ℕ → ℕ → List Read → Type 0
-      K q a R = Accepts deck.settings.policy H (map judge.place_of R) × (are_far deck.settings.version (map judge.place_of R) ≡ false)
+      K q a R = Accepts (scheme_in deck) (length deck.items) H (map judge.place_of R) × (are_far deck.settings.version (map judge.place_of R) ≡ false)
 
       L : SessionLine → Type 0
       L l = verdict_cause deck H (line_by r l) ≡ None
@@ -176,21 +176,21 @@ module _ (deck : Deck) (H : List Event) where
           by None = tt
           by (Some x) = tt
 
-      ended : (policy : Policy) (R : List ReadAt) (x : ReadAt) (c : Clash) → is_late policy R x ≡ false → clash_by_history policy H R x ≡ Some c → EndsSo policy H R (Abort x.item x.cycle c.item)
-      ended policy R x c late e = (late, subst (λ o. IsSomeAnd o (λ held. held.item ≡ c.item)) (sym e) refl)
+      ended : (R : List ReadAt) (x : ReadAt) (c : Clash) → is_late deck.settings.policy R x ≡ false → clash_of (scheme_in deck) (length deck.items) H R x ≡ Some c → EndsSo (scheme_in deck) (length deck.items) H R (Abort x.item x.cycle c.item)
+      ended R x c late e = (late, subst (λ o. IsSomeAnd o (λ held. held.item ≡ c.item)) (sym e) refl)
 
       near : (R : List Read) → are_far deck.settings.version (map judge.place_of R) ≡ false → IsTrue (are_far deck.settings.version (map judge.place_of R)) → ⊥
       near R h far = not_far (are_far deck.settings.version (map judge.place_of R)) h far
 
       rules : Keeps judging (air_of deck) reader Any K L
       rules = record {
-        first = λ q. (accepts_none deck.settings.policy H, none_far deck.settings.version);
-        again = λ q a R k l. (accepts_none deck.settings.policy H, none_far deck.settings.version);
+        first = λ q. (accepts_none (scheme_in deck) (length deck.items) H, none_far deck.settings.version);
+        again = λ q a R k l. (accepts_none (scheme_in deck) (length deck.items) H, none_far deck.settings.version);
         more = λ q a R x k any judged near none.
-            subst (λ S. Accepts deck.settings.policy H S × (are_far deck.settings.version S ≡ false)) (sym (map_push judge.place_of R x))
-            (accepts_push deck.settings.policy H (map judge.place_of R) (judge.place_of x) k.0 judged.in_time none, near);
+            subst (λ S. Accepts (scheme_in deck) (length deck.items) H S × (are_far deck.settings.version S ≡ false)) (sym (map_push judge.place_of R x))
+            (accepts_push (scheme_in deck) (length deck.items) H (map judge.place_of R) (judge.place_of x) k.0 judged.in_time none, near);
         accepted = λ q a R k some e. gives_line r q a Accept R k.0 tt (k.1, (λ no. absurd no, near R k.1));
-        aborted = λ q a R x c k any judged near e. gives_line r q a (Abort x.item x.cycle c.item) R k.0 (ended deck.settings.policy (map judge.place_of R) (judge.place_of x) c judged.in_time e)
+        aborted = λ q a R x c k any judged near e. gives_line r q a (Abort x.item x.cycle c.item) R k.0 (ended (map judge.place_of R) (judge.place_of x) c judged.in_time e)
             (k.1, (λ no. absurd no, λ far. not_far (are_far deck.settings.version (map judge.place_of R ++ judge.place_of x ∷ [])) near far));
         aged = λ q a R x k any judged far. gives_line r q a (Aged x.item x.cycle) R k.0 judged.in_time (k.1, (λ _. far, λ _. tt));
         unfinished = λ q a R k e. gives_line r q a Unfinished R k.0 tt (k.1, (λ no. absurd no, near R k.1));

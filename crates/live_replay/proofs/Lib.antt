@@ -2,10 +2,14 @@ mod FindingExamples
 mod WholeExamples
 pub mod CountLemmas
 pub mod WriteLemmas
+pub mod BetweenLemmas
+pub mod GroupClashLemmas
 pub mod LastLemmas
 pub mod SoughtLemmas
 pub mod AloneLemmas
 pub mod BackwardLemmas
+pub mod MarkedLemmas
+pub mod GroupReadLemmas
 pub mod PassLemmas
 pub mod RunLemmas
 pub mod ReplayLemmas

@@ -4,6 +4,7 @@ use Rattle.std.specs.Prelude.{codes}
 use Rattle.air_base.specs.Numbers.{number_text}
 use Rattle.air_base.specs.declared.verdicts.Policy.TheVariants.{RMatrix}
 use Rattle.air_base.specs.declared.verdicts.VerdictKind.TheVariants.{Abort, Aged}
+use Rattle.air_history.specs.Columns.{scheme_of}
 use Rattle.air_history.specs.Clashes.{clash_by_history, is_late, least}
 use Rattle.air_history.specs.Histories.{front, is_start, writer, writer_before, writes}
 use Rattle.air_history.specs.Places.{last_place}
@@ -93,9 +94,9 @@ pub record Ends : Type 0 where
   -- the first event is a commit
   first_counts : replayed_in (record { history = written_first; verdicts = []; counts = []; glances = []; looks = look ∷ [] }) ≡ 1
   -- under R-Matrix the named read of an aged attempt, or of an abort, comes in time
-  in_time : EndsSo RMatrix unwritten (at 0 1 ∷ []) (Aged 1 256)
-  comes_late : EndsSo RMatrix unwritten (at 0 256 ∷ []) (Aged 1 1) → ⊥
-  abort_in_time : EndsSo RMatrix written_late (at 0 2 ∷ []) (Abort 1 3 0)
+  in_time : EndsSo (scheme_of RMatrix) 2 unwritten (at 0 1 ∷ []) (Aged 1 256)
+  named_late : EndsSo (scheme_of RMatrix) 2 unwritten (at 0 256 ∷ []) (Aged 1 1) → ⊥
+  abort_in_time : EndsSo (scheme_of RMatrix) 2 written_late (at 0 2 ∷ []) (Abort 1 3 0)
 
 ends : Ends
 unfolding number_text replayed_in script_history event_of is_start is_late clash_by_history least stale front writer writer_before writes last_place
@@ -105,6 +106,6 @@ ends = record {
   agrees = refl;
   first_counts = refl;
   in_time = refl;
-  comes_late = λ h. cc;
+  named_late = λ h. cc;
   abort_in_time = (refl, refl);
 }

@@ -7,6 +7,7 @@ use Rattle.air_base.specs.declared.verdicts.Policy.TheVariants.{FMatrix, Datacyc
 use Rattle.air_base.specs.declared.verdicts.ReadOf.{ReadOf}
 use Rattle.air_base.specs.declared.verdicts.VerdictKind.TheVariants.{Accept, Abort, Aged}
 use Rattle.air_history.specs.Ages.{span, spans_too_far}
+use Rattle.air_history.specs.Columns.{scheme_of}
 use Rattle.air_history.specs.Clashes.{clash_by_history, is_late, least}
 use Rattle.air_history.specs.Consistency.{consistent, descends_from, last_alone, runs_alone}
 use Rattle.air_history.specs.Descents.{descends, descends_in}
@@ -83,10 +84,10 @@ pub record Texts : Type 0 where
   -- Each reader's queries end unfinished.
   all_sessions : map (λ t. length t.lines) (sessions_judged two_readers (script_history two_readers) (λ reader. [])) ≡ 1 ∷ 2 ∷ []
   -- Under Datacycle item 1 of cycle 2 clashes with item 0 of cycle 1; under F-Matrix it doesn't.
-  aborted : EndsSo Datacycle (script_history turned) (at 0 1 ∷ []) (Abort 1 2 0)
-  other_clash : EndsSo Datacycle (script_history turned) (at 0 1 ∷ []) (Abort 1 2 1) → ⊥
-  no_clash : EndsSo FMatrix (script_history turned) (at 0 1 ∷ []) (Abort 1 2 0) → ⊥
-  accepted : EndsSo FMatrix (script_history turned) (at 0 1 ∷ []) Accept
+  aborted : EndsSo (scheme_of Datacycle) 2 (script_history turned) (at 0 1 ∷ []) (Abort 1 2 0)
+  other_clash : EndsSo (scheme_of Datacycle) 2 (script_history turned) (at 0 1 ∷ []) (Abort 1 2 1) → ⊥
+  no_clash : EndsSo (scheme_of FMatrix) 2 (script_history turned) (at 0 1 ∷ []) (Abort 1 2 0) → ⊥
+  accepted : EndsSo (scheme_of FMatrix) 2 (script_history turned) (at 0 1 ∷ []) Accept
   -- With the read of cycle 256 that of cycle 1 lies too far apart in version 2, and in version 1 it doesn't.
   aged : SpansSo 2 (at 0 1 ∷ []) (Aged 1 256)
   not_aged : SpansSo 1 (at 0 1 ∷ []) (Aged 1 256) → ⊥

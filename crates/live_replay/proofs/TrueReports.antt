@@ -30,18 +30,18 @@ none_differs cause (row ∷ rows) (l ∷ lines) h =
 
 module _ (deck : Deck) (H : List Event) where
   pub judged_session : (r : ℕ) (heard : List (Option Bucket)) → IsDeck deck →
-      All (λ l. GivesVerdict deck H (line_by r l)) (session_of (by_history (scheme_in deck) (values_in deck) H) deck r heard).lines
+      All (λ l. GivesVerdict deck H (line_by r l)) (session_of (by_history (scheme_in deck) (length deck.items) (values_in deck) H) deck r heard).lines
   judged_session r heard is k d b = (agrees deck H (line_by r (get_or lines k d))).0 (session_agrees deck H r (reader_of deck r) heard ((air deck is).1 r) k d b)
     where
       lines : List SessionLine
-      lines = (session_of (by_history (scheme_in deck) (values_in deck) H) deck r heard).lines
+      lines = (session_of (by_history (scheme_in deck) (length deck.items) (values_in deck) H) deck r heard).lines
 
   abbrev Given : VerdictLine → Type 0
   Given line = GivesVerdict deck H line
 
   module _ (heard : ℕ → List (Option Bucket)) (is : IsDeck deck) where
     abbrev its_session : ℕ → State
-    its_session r = session_of (by_history (scheme_in deck) (values_in deck) H) deck r (heard r)
+    its_session r = session_of (by_history (scheme_in deck) (length deck.items) (values_in deck) H) deck r (heard r)
 
     lines_given : (a n : ℕ) → All Given (flat_map (λ p. map (line_by p.0) p.1.lines) (enumerate_from a (map its_session (range_with_len a n))))
     lines_given a zero = All-nil Given

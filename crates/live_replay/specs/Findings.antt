@@ -3,15 +3,16 @@
 use Rattle.std.specs.Prelude.{ℕ, Bool, true, false, not, ◌&&◌, ◌==◌, if◌then◌else◌, List, map, take, get_or, length, Option, Some, None}
 use Rattle.std.specs.List.{list_all, range_with_len}
 use Rattle.std.specs.Option.{is_some, option_map_or}
-use Rattle.air_base.specs.declared.verdicts.Policy.{Policy}
 use Rattle.air_base.specs.declared.verdicts.ReadOf.{ReadOf}
 use Rattle.air_base.specs.declared.verdicts.VerdictKind.{VerdictKind}
 use Rattle.air_base.specs.declared.verdicts.VerdictKind.TheVariants.{Accept, Abort, Aged, Unfinished}
 use Rattle.air_history.specs.declared.histories.Event.{Event}
 use Rattle.air_history.specs.Tables.{values_of}
 use Rattle.air_history.specs.Reads.{ReadAt, read_value}
-use Rattle.air_history.specs.Clashes.{clash_by_history, is_late}
+use Rattle.air_history.specs.Columns.{Scheme}
+use Rattle.air_history.specs.Clashes.{clash_of, is_late}
 use Rattle.air_history.specs.ClashLaws.{passes}
+use Rattle.air_model.specs.Aired.{scheme_in}
 use Rattle.air_model.specs.Decks.{Deck, values_in}
 use Rattle.air_model.specs.Reports.{total_at}
 use Rattle.air_model.specs.SessionLaws.{are_far, decided_on}
@@ -36,26 +37,26 @@ read_in_cycle item cycle = record { item = item; cycle = cycle }
 abbrev pub has_value : List ℕ → List Event → ReadOf → Bool
 has_value values H read = read.value == read_value (values_of values) H (place_of_line read)
 
--- Each read passes after those before it.
-unfoldable pub all_pass : Policy → List Event → List ReadAt → Bool
-all_pass policy H R = list_all (λ k. passes policy H (take k R) (get_or R k (read_in_cycle 0 0))) (range_with_len 0 (length R))
+-- Each read passes after those before it, over n items.
+unfoldable pub all_pass : Scheme → ℕ → List Event → List ReadAt → Bool
+all_pass scheme n H R = list_all (λ k. passes scheme n H (take k R) (get_or R k (read_in_cycle 0 0))) (range_with_len 0 (length R))
 
 -- The named read of an abort is refused: it comes in time, and clashes with a read before it. That of an aged attempt comes in time. No
 -- other verdict names a read.
-unfoldable pub is_refused : Policy → List Event → List ReadAt → VerdictKind → Bool
-is_refused policy H R Accept = true
-is_refused policy H R (Abort item cycle clash) =
-    not (is_late policy R (read_in_cycle item cycle)) && is_some (clash_by_history policy H R (read_in_cycle item cycle))
-is_refused policy H R (Aged item cycle) = not (is_late policy R (read_in_cycle item cycle))
-is_refused policy H R Unfinished = true
+unfoldable pub is_refused : Scheme → ℕ → List Event → List ReadAt → VerdictKind → Bool
+is_refused scheme n H R Accept = true
+is_refused scheme n H R (Abort item cycle clash) =
+    not (is_late scheme.policy R (read_in_cycle item cycle)) && is_some (clash_of scheme n H R (read_in_cycle item cycle))
+is_refused scheme n H R (Aged item cycle) = not (is_late scheme.policy R (read_in_cycle item cycle))
+is_refused scheme n H R Unfinished = true
 
 -- The named clash of an abort is the item of the read with which the named one clashes. No other verdict names one.
-unfoldable pub is_clash : Policy → List Event → List ReadAt → VerdictKind → Bool
-is_clash policy H R Accept = true
-is_clash policy H R (Abort item cycle clash) =
-    option_map_or (λ held. held.item == clash) (clash_by_history policy H R (read_in_cycle item cycle)) false
-is_clash policy H R (Aged item cycle) = true
-is_clash policy H R Unfinished = true
+unfoldable pub is_clash : Scheme → ℕ → List Event → List ReadAt → VerdictKind → Bool
+is_clash scheme n H R Accept = true
+is_clash scheme n H R (Abort item cycle clash) =
+    option_map_or (λ held. held.item == clash) (clash_of scheme n H R (read_in_cycle item cycle)) false
+is_clash scheme n H R (Aged item cycle) = true
+is_clash scheme n H R Unfinished = true
 
 -- Whether the reads lie as far apart as the verdict says: those of an aged attempt too far for the version, with the named read and not
 -- without it; those of any other not too far, an abort's with the named read.
@@ -68,12 +69,13 @@ spans_so version R Unfinished = not (are_far version R)
 -- Why a verdict's line differs: the first of three causes that applies, in this order.
 unfoldable pub verdict_cause : Deck → List Event → VerdictLine → Option Cause
 verdict_cause deck H line =
-    let policy = deck.settings.policy in
+    let scheme = scheme_in deck in
+    let n = length deck.items in
     let R = places_of line.reads in
     let kind = line.verdict.kind in
     if not (list_all (has_value (values_in deck) H) line.reads) then Some Value
-    else if not (all_pass policy H R && (is_refused policy H R kind && spans_so deck.settings.version R kind)) then Some Verdict
-    else if not (is_clash policy H R kind) then Some Clash
+    else if not (all_pass scheme n H R && (is_refused scheme n H R kind && spans_so deck.settings.version R kind)) then Some Verdict
+    else if not (is_clash scheme n H R kind) then Some Clash
     else None
 
 -- Why the line of a glance or a look differs: its total isn't that of its cycle.

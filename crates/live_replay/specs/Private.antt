@@ -4,4 +4,5 @@ pub mod Alone
 pub mod Runs
 pub mod Replays
 pub mod NamedClashes
+pub mod Groups
 pub mod Lines

@@ -29,4 +29,4 @@ spelled_finding deck H row (Err kind) = None
 
 -- The sessions of all readers, each judged by a history over what it heard.
 abbrev pub sessions_judged : Deck → List Event → (ℕ → List (Option Bucket)) → List State
-sessions_judged deck H heard = map (λ r. session_of (by_history (scheme_in deck) (values_in deck) H) deck r (heard r)) (range_with_len 0 (length deck.readers))
+sessions_judged deck H heard = map (λ r. session_of (by_history (scheme_in deck) (length deck.items) (values_in deck) H) deck r (heard r)) (range_with_len 0 (length deck.readers))

@@ -1,5 +1,5 @@
 -- What is true of an audit: when it says that a line agrees, that it finds true sessions so, and when nothing differs.
-use Rattle.std.specs.Prelude.{◌≡◌, ◌↔◌, ℕ, false, List, All, Option, None}
+use Rattle.std.specs.Prelude.{◌≡◌, ◌↔◌, ℕ, false, List, length, All, Option, None}
 use Rattle.air_model.specs.Aired.{scheme_in}
 use Rattle.air_model.specs.Buckets.{Bucket}
 use Rattle.air_model.specs.Decks.{Deck, values_in}
@@ -23,7 +23,7 @@ pub record IsTrueAudit (deck : Deck) (read : ReadReport) : Type 0 where
   pub verdicts : (line : VerdictLine) → (verdict_cause deck read.report.history line ≡ None) ↔ GivesVerdict deck read.report.history line
   pub looks : (line : LookLine) → (look_cause deck read.report.history line ≡ None) ↔ GivesLook deck read.report.history line
   pub judged : (r : ℕ) (heard : List (Option Bucket)) → All (λ line. verdict_cause deck read.report.history (line_by r line) ≡ None)
-      (session_of (by_history (scheme_in deck) (values_in deck) read.report.history) deck r heard).lines
+      (session_of (by_history (scheme_in deck) (length deck.items) (values_in deck) read.report.history) deck r heard).lines
   pub sessions : (heard : ℕ → List (Option Bucket)) → read.report.verdicts ≡ verdict_lines (sessions_judged deck read.report.history heard)
       → All (GivesLook deck read.report.history) read.report.glances → All (GivesLook deck read.report.history) read.report.looks
       → All (λ found. found.differs ≡ None) (findings deck read)

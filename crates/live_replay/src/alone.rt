@@ -1,7 +1,7 @@
-//! Whether reads are consistent: one backward pass over the commits from which they descend.
+//! Whether reads are consistent: one backward walk over the commits from which they descend.
 //!
-//! When these commits run alone, none of them may write a read's item after that read's origin. The pass begins at the last origin and
-//! ends at the first one, or at the first commit that comes too late.
+//! When these commits run alone, none of them may write a read's item after that read's origin. The walk begins at the last origin and
+//! ends at the first one, or at the first commit that writes an item of a read after the read's origin.
 
 ghost use Rattle.std.specs.Prelude.{◌≡◌, ◌≤◌, ◌<◌, ◌&&◌, ℕ, false, length, get_or, map, All, IfOk, IfSome, Some};
 ghost use Rattle.std.specs.List.{list_any};
@@ -10,16 +10,16 @@ ghost use Rattle.air_history.specs.Histories.{ItemsFit, writes};
 ghost use Rattle.air_history.specs.Places.{same_place};
 ghost use Rattle.air_history.specs.Reads.{origin};
 ghost use Rattle.live_replay.specs.Findings.{places_of};
-ghost use Rattle.live_replay.specs.Private.Alone.{comes_late, first_or_none, is_after, is_met};
+ghost use Rattle.live_replay.specs.Private.Alone.{overwrites_read, first_or_none, is_after, is_met};
 
 use crate::replay::{Replay, same_place};
-use crate::sought::{forget_written, none_sought, seek_read, writes_sought};
+use crate::sought::{forget_written, none_set, seek_read, writes_sought};
 use air_base::{NoMemory, ReadOf};
 use air_history::Event;
 use std::alloc::Global;
 
 /// The origin of each read.
-fn origins_of(
+pub fn origins_of(
     alloc: Global,
     replay: &Replay<'_>,
     reads: &[ReadOf],
@@ -34,7 +34,7 @@ fn origins_of(
 }
 
 /// The place after the last origin, 0 if there is none.
-fn end_of(count: usize, origins: &[Option<u64>]) -> usize
+pub fn end_of(count: usize, origins: &[Option<u64>]) -> usize
     requires { All (λ o. IfSome o (λ w. w < count)) origins.now }
     ensures within { result ≤ count }
     ensures all { All (λ o. IfSome o (λ w. w < result)) origins.now }
@@ -105,10 +105,15 @@ fn writes_after(event: &Event, place: u64, item: u16, origin: Option<u64>) -> bo
 }
 
 /// Whether the commit at a place writes an item of these reads after its origin.
-fn comes_late(events: &[Event], place: usize, reads: &[ReadOf], origins: &[Option<u64>]) -> bool
+fn overwrites_read(
+    events: &[Event],
+    place: usize,
+    reads: &[ReadOf],
+    origins: &[Option<u64>],
+) -> bool
     requires within { place < length events.now }
     requires origins { origins.now ≡ map (origin events.now) (places_of reads.now) }
-    ensures { result ≡ comes_late events.now (places_of reads.now) place }
+    ensures { result ≡ overwrites_read events.now (places_of reads.now) place }
 {
     for (k, read) in reads.iter().enumerate() {
         if writes_after(&events[place], place as u64, read.item, origins[k]) {
@@ -134,7 +139,7 @@ fn none_late(
     let end = end_of(events.len(), origins);
     for at in (first..end).rev() {
         if is_met(events, at, origins, sought) {
-            if comes_late(events, at, reads, origins) {
+            if overwrites_read(events, at, reads, origins) {
                 return false;
             }
             forget_written(events[at].writes(), sought);
@@ -149,6 +154,6 @@ pub fn is_consistent(alloc: Global, replay: &Replay<'_>, reads: &[ReadOf]) -> Re
     ensures { IfOk result (λ told. told ≡ consistent replay.now.history (places_of reads.now)) }
 {
     let origins = origins_of(alloc, replay, reads)?;
-    let mut sought = none_sought(alloc, replay.items() as usize)?;
+    let mut sought = none_set(alloc, replay.items() as usize)?;
     Ok(none_late(replay.events(), reads, &origins, &mut sought))
 }

@@ -1,7 +1,7 @@
 //! Laws of audits: when a line agrees, which rows have findings, and that true reports agree. Each is the contract of a function that
 //! does nothing.
 
-ghost use Rattle.std.specs.Prelude.{◌≡◌, ◌↔◌, ℕ, List, All, Option, None};
+ghost use Rattle.std.specs.Prelude.{◌≡◌, ◌↔◌, ℕ, List, length, All, Option, None};
 ghost use Rattle.std.specs.List.{enumerate_from, filter_map};
 ghost use Rattle.air_history.specs.declared.histories.Event.{Event};
 ghost use Rattle.air_model.specs.Aired.{scheme_in};
@@ -37,7 +37,7 @@ pub fn rows_law()
 /// A replay gives each line of a session that its history judges, regardless of what the reader heard.
 pub fn session_law()
     ensures { (deck : Deck) (H : List Event) (r : ℕ) (heard : List (Option Bucket)) → IsDeck deck →
-        All (λ line. GivesVerdict deck H (line_by r line)) (session_of (by_history (scheme_in deck) (values_in deck) H) deck r heard).lines }
+        All (λ line. GivesVerdict deck H (line_by r line)) (session_of (by_history (scheme_in deck) (length deck.items) (values_in deck) H) deck r heard).lines }
 {}
 
 /// No line of a report differs if its verdicts are those of sessions that its history judges, and its glances and looks have the totals

@@ -1,13 +1,12 @@
-//! Which held read a new one clashes with under each policy, and whether each read passes after those before it.
+//! Which held read a new one clashes with under each policy, without groups.
 //!
 //! The history alone decides: by the origins of reads, and by whether reads are consistent.
 
 ghost use Rattle.std.specs.Prelude.{◌≡◌, ◌≤◌, All, IfOk, IfSome, Some};
 ghost use Rattle.air_history.specs.Histories.{starts};
-ghost use Rattle.air_history.specs.Reads.{IsRead, first_cycle, last_cycle, newest_cycle};
+ghost use Rattle.air_history.specs.Reads.{first_cycle, last_cycle, newest_cycle};
 ghost use Rattle.air_history.specs.Clashes.{clash_by_history, is_late, lesser, named_clash};
-ghost use Rattle.air_history.specs.ClashLaws.{passes};
-ghost use Rattle.live_replay.specs.Findings.{all_pass, place_of_line, places_of};
+ghost use Rattle.live_replay.specs.Findings.{place_of_line, places_of};
 ghost use Rattle.live_replay.specs.Private.NamedClashes.{NamesWithin, clash_named, named_by};
 
 use crate::alone::is_consistent;
@@ -17,7 +16,7 @@ use std::alloc::Global;
 
 /// Which held reads a new one clashes with.
 #[derive(Clone, Copy, Debug, PartialEq, Eq)]
-pub enum Naming {
+pub enum ClashTest {
     /// Those whose items have other origins at this cycle.
     StaleAt(u32),
     /// Those of this cycle.
@@ -31,22 +30,22 @@ pub enum Naming {
 fn is_named(
     alloc: Global,
     replay: &Replay<'_>,
-    naming: Naming,
+    test: ClashTest,
     held: &ReadOf,
 ) -> Result<bool, NoMemory>
     requires held { held.now.cycle ≤ starts replay.now.history }
-    requires new { NamesWithin (starts replay.now.history) naming }
-    ensures { IfOk result (λ named. named ≡ named_by replay.now.history naming (place_of_line held.now)) }
+    requires new { NamesWithin (starts replay.now.history) test }
+    ensures { IfOk result (λ named. named ≡ named_by replay.now.history test (place_of_line held.now)) }
 {
-    match naming {
-        Naming::StaleAt(cycle) => Ok(!replay.same_origin(held.item, cycle, held.cycle)),
-        Naming::OfCycle(cycle) => Ok(held.cycle == cycle),
-        Naming::ApartFrom(read) => Ok(!is_consistent(alloc, replay, &[*held, read])?),
+    match test {
+        ClashTest::StaleAt(cycle) => Ok(!replay.same_origin(held.item, cycle, held.cycle)),
+        ClashTest::OfCycle(cycle) => Ok(held.cycle == cycle),
+        ClashTest::ApartFrom(read) => Ok(!is_consistent(alloc, replay, &[*held, read])?),
     }
 }
 
 /// Of a read and a clash, the one of lesser item number.
-fn lesser(read: &ReadOf, clash: Option<Clash>) -> Clash
+pub fn lesser(read: &ReadOf, clash: Option<Clash>) -> Clash
     ensures { Some result ≡ lesser (place_of_line read.now) clash }
 {
     match clash {
@@ -60,19 +59,19 @@ fn lesser(read: &ReadOf, clash: Option<Clash>) -> Clash
 
 /// The named held read of the least item number.
 #[tactic(auto, using(crate::proofs::PolicyLemmas::named_more, crate::proofs::PolicyLemmas::named_not, crate::proofs::PolicyLemmas::named_none))]
-fn least_named(
+pub fn least_named(
     alloc: Global,
     replay: &Replay<'_>,
-    naming: Naming,
+    test: ClashTest,
     held: &[ReadOf],
 ) -> Result<Option<Clash>, NoMemory>
     requires held { All (λ r. r.cycle ≤ starts replay.now.history) held.now }
-    requires new { NamesWithin (starts replay.now.history) naming }
-    ensures { IfOk result (λ clash. clash ≡ named_clash (named_by replay.now.history naming) (places_of held.now)) }
+    requires new { NamesWithin (starts replay.now.history) test }
+    ensures { IfOk result (λ clash. clash ≡ named_clash (named_by replay.now.history test) (places_of held.now)) }
 {
     let mut least = None;
     for k in (0..held.len()).rev() {
-        if is_named(alloc, replay, naming, &held[k])? {
+        if is_named(alloc, replay, test, &held[k])? {
             least = Some(lesser(&held[k], least));
         }
     }
@@ -124,7 +123,7 @@ pub fn is_late(policy: Policy, held: &[ReadOf], read: &ReadOf) -> bool
 
 /// Which held reads a new one clashes with, if it can clash.
 #[tactic(auto, unfolding(air_history::specs::Clashes::clash_by_history))]
-fn naming_of(replay: &Replay<'_>, held: &[ReadOf], read: &ReadOf) -> Option<Naming>
+pub fn test_of(replay: &Replay<'_>, held: &[ReadOf], read: &ReadOf) -> Option<ClashTest>
     requires held { All (λ r. r.cycle ≤ starts replay.now.history) held.now }
     requires new { read.now.cycle ≤ starts replay.now.history }
     ensures new { IfSome result (NamesWithin (starts replay.now.history)) }
@@ -132,84 +131,22 @@ fn naming_of(replay: &Replay<'_>, held: &[ReadOf], read: &ReadOf) -> Option<Nami
         ≡ clash_by_history replay.now.deck.settings.policy replay.now.history (places_of held.now) (place_of_line read.now) }
 {
     match replay.policy() {
-        Policy::FMatrix => Some(Naming::ApartFrom(*read)),
+        Policy::FMatrix => Some(ClashTest::ApartFrom(*read)),
         Policy::Datacycle => {
             let newest = newest_cycle(held);
             if newest <= read.cycle {
-                Some(Naming::StaleAt(read.cycle))
+                Some(ClashTest::StaleAt(read.cycle))
             } else if replay.same_origin(read.item, newest, read.cycle) {
                 None
             } else {
-                Some(Naming::OfCycle(newest))
+                Some(ClashTest::OfCycle(newest))
             }
         }
         Policy::RMatrix => {
             if replay.same_origin(read.item, read.cycle, first_cycle(held)) {
                 return None;
             }
-            Some(Naming::StaleAt(read.cycle))
+            Some(ClashTest::StaleAt(read.cycle))
         }
-    }
-}
-
-/// The held read with which a new one clashes.
-pub fn clash(
-    alloc: Global,
-    replay: &Replay<'_>,
-    held: &[ReadOf],
-    read: &ReadOf,
-) -> Result<Option<Clash>, NoMemory>
-    requires held { All (λ r. r.cycle ≤ starts replay.now.history) held.now }
-    requires new { read.now.cycle ≤ starts replay.now.history }
-    ensures { IfOk result (λ clash. clash
-        ≡ clash_by_history replay.now.deck.settings.policy replay.now.history (places_of held.now) (place_of_line read.now)) }
-{
-    match naming_of(replay, held, read) {
-        None => Ok(None),
-        Some(naming) => least_named(alloc, replay, naming, held),
-    }
-}
-
-/// Whether a new read passes after held ones.
-#[tactic(auto, unfolding(air_history::specs::ClashLaws::passes))]
-fn passes(
-    alloc: Global,
-    replay: &Replay<'_>,
-    held: &[ReadOf],
-    read: &ReadOf,
-) -> Result<bool, NoMemory>
-    requires held { All (λ r. r.cycle ≤ starts replay.now.history) held.now }
-    requires new { read.now.cycle ≤ starts replay.now.history }
-    ensures { IfOk result (λ told. told
-        ≡ passes replay.now.deck.settings.policy replay.now.history (places_of held.now) (place_of_line read.now)) }
-{
-    if is_late(replay.policy(), held, read) {
-        return Ok(false);
-    }
-    Ok(clash(alloc, replay, held, read)?.is_none())
-}
-
-/// Whether each read passes after those before it. This asks for each read by itself.
-fn each_passes(alloc: Global, replay: &Replay<'_>, reads: &[ReadOf]) -> Result<bool, NoMemory>
-    requires { All (λ r. r.cycle ≤ starts replay.now.history) reads.now }
-    ensures { IfOk result (λ told. told ≡ all_pass replay.now.deck.settings.policy replay.now.history (places_of reads.now)) }
-{
-    for k in 0..reads.len() {
-        if !passes(alloc, replay, &reads[..k], &reads[k])? {
-            return Ok(false);
-        }
-    }
-    Ok(true)
-}
-
-/// Whether each read passes after those before it. Under F-Matrix this is one question about all reads.
-pub fn all_pass(alloc: Global, replay: &Replay<'_>, reads: &[ReadOf]) -> Result<bool, NoMemory>
-    requires within { All (λ r. r.cycle ≤ starts replay.now.history) reads.now }
-    requires begun { All IsRead (places_of reads.now) }
-    ensures { IfOk result (λ told. told ≡ all_pass replay.now.deck.settings.policy replay.now.history (places_of reads.now)) }
-{
-    match replay.policy() {
-        Policy::FMatrix => is_consistent(alloc, replay, reads),
-        Policy::Datacycle | Policy::RMatrix => each_passes(alloc, replay, reads),
     }
 }

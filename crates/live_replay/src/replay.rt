@@ -3,17 +3,20 @@
 //! The history is run once. This keeps the writes of each item, with their places. A search there finds a read's origin and value.
 
 ghost use Rattle.std.specs.Prelude.{◌≡◌, ◌<◌, length, All, IfOk};
+ghost use Rattle.air_history.specs.Columns.{has_groups};
 ghost use Rattle.air_history.specs.Histories.{ItemsFit};
 ghost use Rattle.air_history.specs.Places.{same_place};
 ghost use Rattle.air_history.specs.Reads.{origin, read_value, same_origin};
 ghost use Rattle.air_history.specs.Tables.{values_of};
+ghost use Rattle.air_model.specs.Aired.{scheme_in};
 ghost use Rattle.air_model.specs.Decks.{values_in};
 ghost use Rattle.air_model.specs.Reports.{total_at};
 ghost use Rattle.live_replay.specs.Findings.{read_in_cycle};
+ghost use Rattle.live_replay.specs.Private.Groups.{writes_between};
 ghost use Rattle.live_replay.specs.Private.Writes.{count_at, writes_from};
 
 use crate::running::ReplayState;
-use crate::writes::ItemWrites;
+use crate::writes::{ItemWrite, ItemWrites};
 use air_base::{NoMemory, Policy};
 use air_history::{Event, History};
 use item_catalog::Deck;
@@ -81,6 +84,23 @@ impl<'a> Replay<'a> {
         self.deck.settings().policy
     }
 
+    /// The number of items of the deck's groups, 0 if there are none.
+    pub fn group(&self) -> u16
+        ensures { result ≡ self.now.deck.settings.group }
+    {
+        self.deck.settings().group
+    }
+
+    /// Whether the deck airs by groups.
+    pub fn has_groups(&self) -> bool
+        ensures { result ≡ has_groups (scheme_in self.now.deck) }
+    {
+        match self.policy() {
+            Policy::FMatrix => self.group() > 0,
+            Policy::Datacycle | Policy::RMatrix => false,
+        }
+    }
+
     /// The version of the deck's buckets.
     pub fn version(&self) -> u8
         ensures { result ≡ self.now.deck.settings.version }
@@ -138,6 +158,19 @@ impl<'a> Replay<'a> {
         ensures { result ≡ count_at (values_in self.now.deck) self.now.history item cycle }
     {
         self.writes(item).before(cycle)
+    }
+
+    /// The writes of an item from a cycle on and before another, in order.
+    pub fn writes_between(&self, item: u16, from: u32, to: u32) -> &[ItemWrite]
+        requires { item < length self.now.deck.items }
+        ensures { result.now ≡ writes_between (values_in self.now.deck) self.now.history item from to }
+    {
+        let first = self.writes_before(item, from);
+        let end = self.writes_before(item, to);
+        if end <= first {
+            return &[];
+        }
+        &self.writes(item).as_slice()[first..end]
     }
 
     /// The value of an item at a cycle's start.

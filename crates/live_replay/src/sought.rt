@@ -1,4 +1,4 @@
-//! The items that a backward pass looks for: those that a commit reads whose writer it hasn't met yet.
+//! The items that a backward walk looks for: those that a commit reads whose writer it hasn't met yet.
 
 ghost use Rattle.std.specs.Prelude.{◌≡◌, ◌==◌, ◌<◌, ℕ, false, not, ◌&&◌, ◌||◌, All, IfOk, length, get_or};
 ghost use Rattle.std.specs.List.{list_any};
@@ -7,10 +7,10 @@ use air_base::NoMemory;
 use air_history::Write;
 use std::alloc::Global;
 
-/// Room for this many items, none of which is looked for.
-pub fn none_sought(alloc: Global, count: usize) -> Result<Vec<bool>, NoMemory>
-    ensures sized { IfOk result (λ sought. length sought.items ≡ count) }
-    ensures clear { IfOk result (λ sought. (i : ℕ) → get_or sought.items i false ≡ false) }
+/// This many flags, none of which is set.
+pub fn none_set(alloc: Global, count: usize) -> Result<Vec<bool>, NoMemory>
+    ensures sized { IfOk result (λ flags. length flags.items ≡ count) }
+    ensures clear { IfOk result (λ flags. (i : ℕ) → get_or flags.items i false ≡ false) }
 {
     Ok(vec![in alloc; false; count]?)
 }

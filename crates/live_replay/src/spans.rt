@@ -9,7 +9,7 @@ use air_base::limits::AGE_CAP;
 use air_base::{ReadOf, VerdictKind};
 
 /// The span of reads with one more of this cycle. Its item doesn't matter.
-fn span_with(reads: &[ReadOf], cycle: u32) -> u32
+fn span_of_line(reads: &[ReadOf], cycle: u32) -> u32
     ensures { (item : ℕ) → result ≡ span (places_of reads.now ++ read_in_cycle item cycle ∷ []) }
 {
     let mut newest = cycle;
@@ -26,7 +26,7 @@ fn span_with(reads: &[ReadOf], cycle: u32) -> u32
 fn are_far_with(version: u8, reads: &[ReadOf], cycle: u32) -> bool
     ensures { (item : ℕ) → result ≡ are_far version (places_of reads.now ++ read_in_cycle item cycle ∷ []) }
 {
-    version >= 2 && span_with(reads, cycle) >= AGE_CAP
+    version >= 2 && span_of_line(reads, cycle) >= AGE_CAP
 }
 
 /// Whether reads lie too far apart for the version.

@@ -15,7 +15,7 @@ use air_sender::{TapeMast, tape_len};
 use case_lines::{Parts, add_line};
 use chunk_program::Planned;
 use listeners::Sessions;
-use scripts::{PieceRun, ScriptAiring, piece_cycles};
+use scripts::{PieceRun, ScriptAiring, hear_script, piece_cycles};
 use std::alloc::Global;
 use std::thread::Threads;
 
@@ -85,6 +85,23 @@ fn air_pieces<T: Threads + Sync>(
     let (events, sessions) = aired.end(threads, alloc, planned)?;
     add_tape(&tape, came)?;
     add_report(alloc, events, sessions, came)
+}
+
+/// Lets all readers hear the deck's script without its tape.
+pub fn script<T: Threads + Sync>(
+    threads: &T,
+    alloc: Global,
+    text: &[u8],
+    came: &mut Vec<u8>,
+) -> Result<(), NoMemory> {
+    let Some(planned) = planned_deck(alloc, text) else {
+        return add_line(b"no deck", &[], came);
+    };
+    if tape_len(&planned) > MOST_TAPE_BYTES as u64 {
+        return add_line(b"too long", &[], came);
+    }
+    let heard = hear_script(threads, alloc, &planned)?;
+    add_report(alloc, heard.events, heard.sessions, came)
 }
 
 /// Runs the deck's script to a mast of limited room. The numbers are this room, and then the number of cycles of each piece.

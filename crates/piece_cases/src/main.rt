@@ -2,17 +2,19 @@
 //!
 //! `deck` and `tape` begin a file, and `more` and `repeat` continue the deck. `sizes` takes a number of further starts, and adds the length of the
 //! script's tape and the number of cycles of a piece of it. `air` takes the number of cycles of a piece, and airs the script to all readers; `run`
-//! airs it to a mast alone. `hear` and `fronts` let the deck's readers hear the tape.
+//! airs it to a mast alone, `beam` beams it, and `script` lets all readers hear it without a tape. `hear` and `fronts` let the deck's readers hear the tape.
 #![tactic(auto)]
 
 mod airing;
+mod beaming;
 mod decks;
 mod hearing;
 mod reports;
 
 ghost use Rattle.std.specs.Thread.{IsSync};
 
-use crate::airing::{air, run, sizes};
+use crate::airing::{air, run, script, sizes};
+use crate::beaming::beam;
 use crate::hearing::{fronts, hear};
 use air_base::NoMemory;
 use case_lines::{BadCase, Parts, Player, play_stdin};
@@ -45,7 +47,9 @@ impl<R: Threads + Sync> Player for Pieces<'_, R> {
             b"tape" => self.tape = parts.bytes(alloc)?,
             b"sizes" => sizes(alloc, &self.deck, parts, came)?,
             b"air" => air(self.rt, alloc, &self.deck, parts, came)?,
+            b"beam" => beam(alloc, &self.deck, parts, came)?,
             b"run" => run(alloc, &self.deck, parts, came)?,
+            b"script" => script(self.rt, alloc, &self.deck, came)?,
             b"hear" => hear(self.rt, alloc, &self.deck, &self.tape, parts, came)?,
             b"fronts" => fronts(self.rt, alloc, &self.deck, &self.tape, parts, came)?,
             _ => parts.refuse(BadCase::NoSuchWord),

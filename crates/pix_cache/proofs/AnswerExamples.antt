@@ -3,8 +3,8 @@ use Rattle.std.proofs.Common.{◌<◌, ◌≤◌, ℕ, List, [], ◌∷◌, IsTr
 use Rattle.std.proofs.lemmas.Bool.{false≢true}
 use Rattle.std.proofs.lemmas.List.Elements.{All-from_recursion}
 use Rattle.air_model.specs.Copies.{goes_before}
-use Rattle.air_model.specs.Reads.{Read}
-use Rattle.pix_cache.specs.Caches.{FindsRoom, HasCopy, IsLeastCopy, copy, copy_among}
+use Rattle.air_model.specs.Reads.{Read, read_with}
+use Rattle.pix_cache.specs.Caches.{FindsRoom, HasCopy, IsLeastCopy, copy_among}
 
 -- PIX numbers of four items: 1 and 2 have the greatest.
 abbrev pix : List ℕ
@@ -12,7 +12,7 @@ pix = 5 ∷ 9 ∷ 9 ∷ 7 ∷ []
 
 -- A copy of an item.
 abbrev of_item : ℕ → Read
-of_item item = copy item 1 10 []
+of_item item = read_with item 1 10 []
 
 -- Two copies.
 abbrev two : List Read

@@ -7,10 +7,10 @@ use Rattle.std.proofs.lemmas.Bool.{cases_eq, cases_lt}
 use Rattle.std.proofs.lemmas.List.{get_or-set_other, get_or-set_same, get_or_default, get_or_past, same_lists, set-get_or}
 use Rattle.std.proofs.lemmas.List.FromFn.{get_or-map-range_with_len, length-map-range_with_len}
 use Rattle.std.proofs.lemmas.List.Sums.{sum_by-cons}
-use Rattle.air_model.specs.Reads.{Read}
+use Rattle.air_model.specs.Reads.{Read, read_with}
 use Rattle.air_model.specs.Copies.{without_item}
 use Rattle.pix_cache.specs.Stores.{StoredCopy, no_store}
-use Rattle.pix_cache.specs.Caches.{copy, copy_among}
+use Rattle.pix_cache.specs.Caches.{copy_among}
 use Rattle.pix_cache.specs.CacheFields.{copies_in_store, somes, stored_read}
 use Rattle.pix_cache.proofs.SomeLemmas.{Placed, copy_is, count_somes, without_is}
 
@@ -75,12 +75,12 @@ by_place os rs l h = same_lists os rs l (λ k d m. get_or_default os k d None m 
 -- What is read in one copy slot doesn't change with another.
 pub same_read : (stores : List StoredCopy) (copy_slot : ℕ) (st : StoredCopy) (k : ℕ) (o : Option ℕ) → o ≢ Some copy_slot → option_map (stored_read (set stores copy_slot st) k) o ≡ option_map (stored_read stores k) o
 same_read stores copy_slot st k None ne = refl
-same_read stores copy_slot st k (Some t) ne = ap (λ (s : StoredCopy). Some (copy k s.cycle s.value s.entries)) (get_or-set_other stores copy_slot t st no_store (λ same. ne (ap Some same)))
+same_read stores copy_slot st k (Some t) ne = ap (λ (s : StoredCopy). Some (read_with k s.cycle s.value s.entries)) (get_or-set_other stores copy_slot t st no_store (λ same. ne (ap Some same)))
 
 -- A copy put into a copy slot of its own is at its item's place, and all others stay.
 pub put_is : (stores : List StoredCopy) (places : List (Option ℕ)) (item copy_slot : ℕ) (st : StoredCopy) → item < length places → copy_slot < length stores →
     ((k : ℕ) → k < length places → k ≢ item → get_or places k None ≢ Some copy_slot) →
-    copies_in_store (set stores copy_slot st) (set places item (Some copy_slot)) ≡ set (copies_in_store stores places) item (Some (copy item st.cycle st.value st.entries))
+    copies_in_store (set stores copy_slot st) (set places item (Some copy_slot)) ≡ set (copies_in_store stores places) item (Some (read_with item st.cycle st.value st.entries))
 put_is stores places item copy_slot st li ls apart =
     by_place (copies_in_store (set stores copy_slot st) (set places item (Some copy_slot))) (set (copies_in_store stores places) item (Some x))
     (long (set stores copy_slot st) (set places item (Some copy_slot)) ∙ length-set places item (Some copy_slot) ∙ sym (long stores places) ∙ sym (length-set (copies_in_store stores places) item (Some x)))
@@ -88,13 +88,13 @@ put_is stores places item copy_slot st li ls apart =
     at_place (set stores copy_slot st) (set places item (Some copy_slot)) k (omega (arith, length-set places item (Some copy_slot))) ∙ by k short (cases_eq k item)))
   where
     x : Read
-    x = copy item st.cycle st.value st.entries
+    x = read_with item st.cycle st.value st.entries
 
     by : (k : ℕ) → k < length places → (k ≡ item) ⊎ (k ≡ item → ⊥) → option_map (stored_read (set stores copy_slot st) k) (get_or (set places item (Some copy_slot)) k None) ≡ get_or (set (copies_in_store stores places) item (Some x)) k None
     by k short (inl same) =
         ap (λ j. option_map (stored_read (set stores copy_slot st) j) (get_or (set places item (Some copy_slot)) j None)) same
         ∙ ap (option_map (stored_read (set stores copy_slot st) item)) (get_or-set_same places item (Some copy_slot) None li)
-        ∙ ap (λ (s : StoredCopy). Some (copy item s.cycle s.value s.entries)) (get_or-set_same stores copy_slot st no_store ls)
+        ∙ ap (λ (s : StoredCopy). Some (read_with item s.cycle s.value s.entries)) (get_or-set_same stores copy_slot st no_store ls)
         ∙ sym (ap (λ j. get_or (set (copies_in_store stores places) item (Some x)) j None) same ∙ get_or-set_same (copies_in_store stores places) item (Some x) None (omega (arith, long stores places)))
     by k short (inr other) =
         ap (option_map (stored_read (set stores copy_slot st) k)) (get_or-set_other places item k (Some copy_slot) None other)

@@ -1,7 +1,7 @@
 -- The fields of a cache, as each call finds them, and what each call's clauses say of the fields that it leaves.
 use Rattle.std.proofs.Common.{◌≡◌, ℕ, ◌<◌, ◌≤◌, if◌then◌else◌, List, length, get_or, All, Option, Some, None, refl, sym, ◌∙◌, ap, subst, arith, length-set}
 use Rattle.std.proofs.Math.ListN.{set}
-use Rattle.air_model.specs.Reads.{Read}
+use Rattle.air_model.specs.Reads.{Read, read_with}
 use Rattle.air_model.specs.Copies.{keep, with_copy, without_item}
 use Rattle.pix_cache.specs.declared.leaf.Leaf.{Leaf}
 use Rattle.pix_cache.specs.declared.cache.PixCache.TheInside.{Inside}
@@ -10,7 +10,7 @@ use Rattle.pix_cache.specs.declared.cache.KeepAnswer.TheVariants.{Evicted, Place
 use Rattle.pix_cache.specs.Private.KeepAnswers.{IsKeepAnswer}
 use Rattle.pix_cache.specs.Stores.{StoredCopy}
 use Rattle.pix_cache.specs.Leaves.{copy_leaf, nowhere, weight}
-use Rattle.pix_cache.specs.Caches.{Cache, IsLeastCopy, copy, copy_among}
+use Rattle.pix_cache.specs.Caches.{Cache, IsLeastCopy, copy_among}
 use Rattle.pix_cache.specs.CacheFields.{Agree, KeepsCopies, cache_of, copies_in_store, somes, stored_read}
 use Rattle.pix_cache.proofs.AgreeLemmas.{new_leaf}
 use Rattle.pix_cache.proofs.CacheLemmas.{kept_copy, no_copy}
@@ -60,11 +60,11 @@ module _ (i : Inside) (k : KeepsCopies i) (self : Cache) (view : cache_of i ≡ 
   -- A copy over that of its item.
   module _ (st : StoredCopy) where
     abbrev x : Read
-    x = copy item st.cycle st.value st.entries
+    x = read_with item st.cycle st.value st.entries
 
     -- The copies are those that are kept of all copies and the newcomer.
     pub replace_form : (copy_slot : ℕ) → get_or i.places.items item None ≡ Some copy_slot → (new : List StoredCopy) → new ≡ set i.store.stores copy_slot st →
-        ◌≡◌ {A = Cache} (record { room = length new; pix = i.pix.items; copies = somes (copies_in_store new i.places.items) }) (record { room = self.room; pix = self.pix; copies = keep self.room self.pix (with_copy (copy item st.cycle st.value st.entries) self.copies) })
+        ◌≡◌ {A = Cache} (record { room = length new; pix = i.pix.items; copies = somes (copies_in_store new i.places.items) }) (record { room = self.room; pix = self.pix; copies = keep self.room self.pix (with_copy (read_with item st.cycle st.value st.entries) self.copies) })
     replace_form copy_slot e new put =
         kept_form i.pix.items (length stores) (length i.tree) (length new) (somes (copies_in_store stores places)) _ x self view k.copy_slots (ap length put ∙ length-set stores copy_slot st)
         (replaced i.pix.items places i.tree stores k.agree same small item within st copy_slot e ∙ ap (λ (t : List StoredCopy). somes (copies_in_store t places)) (sym put))
@@ -75,12 +75,12 @@ module _ (i : Inside) (k : KeepsCopies i) (self : Cache) (view : cache_of i ≡ 
       lighter s l = let w = light s nowhere l in let n = ap (λ p. weight (copy_leaf 0 p item)) number in omega arith
 
       -- The copies before are those that are kept of them and the newcomer.
-      pub decline_form : self ≡ record { room = self.room; pix = self.pix; copies = keep self.room self.pix (with_copy (copy item st.cycle st.value st.entries) self.copies) }
+      pub decline_form : self ≡ record { room = self.room; pix = self.pix; copies = keep self.room self.pix (with_copy (read_with item st.cycle st.value st.entries) self.copies) }
       decline_form = sym view
           ∙ kept_form i.pix.items (length stores) (length i.tree) (length stores) (somes (copies_in_store stores places)) _ x self view k.copy_slots refl (declined i.pix.items places i.tree stores k.agree same small item within st none 0 lighter)
 
       -- The newcomer is the least of all.
-      pub decline_answer : IsLeastCopy self.room self.pix self.copies (copy item st.cycle st.value st.entries)
+      pub decline_answer : IsLeastCopy self.room self.pix self.copies (read_with item st.cycle st.value st.entries)
       decline_answer = subst (λ (s : Cache). IsLeastCopy s.room s.pix s.copies x) view (
         (no_copy stores places item within none, (let full = declined_full i.pix.items places i.tree stores k.agree same small item within st none 0 lighter in omega (arith, k.copy_slots))),
         all_before i.pix.items places i.tree stores k.agree same small item within st none 0 lighter,
@@ -103,12 +103,12 @@ module _ (i : Inside) (k : KeepsCopies i) (self : Cache) (view : cache_of i ≡ 
 
       -- The copies are those that are kept of all copies and the newcomer.
       pub take_form : (new : List StoredCopy) → new ≡ set i.store.stores r.copy_slot st →
-          ◌≡◌ {A = Cache} (record { room = length new; pix = i.pix.items; copies = somes (copies_in_store new (set rest item (Some r.copy_slot))) }) (record { room = self.room; pix = self.pix; copies = keep self.room self.pix (with_copy (copy item st.cycle st.value st.entries) self.copies) })
+          ◌≡◌ {A = Cache} (record { room = length new; pix = i.pix.items; copies = somes (copies_in_store new (set rest item (Some r.copy_slot))) }) (record { room = self.room; pix = self.pix; copies = keep self.room self.pix (with_copy (read_with item st.cycle st.value st.entries) self.copies) })
       take_form new put =
           kept_form i.pix.items (length stores) (length i.tree) (length new) (somes (copies_in_store stores places)) _ x self view k.copy_slots (ap length put ∙ length-set stores r.copy_slot st)
           ((taken _ refl).1 ∙ ap (λ (t : List StoredCopy). somes (copies_in_store t (set rest item (Some r.copy_slot)))) (sym put))
 
       -- The answer says what was done with the newcomer.
-      pub take_answer : (answer : KeepAnswer) → answer ≡ (if r.kept then Evicted r.item else Placed) → IsKeepAnswer self.room self.pix self.copies (copy item st.cycle st.value st.entries) answer
+      pub take_answer : (answer : KeepAnswer) → answer ≡ (if r.kept then Evicted r.item else Placed) → IsKeepAnswer self.room self.pix self.copies (read_with item st.cycle st.value st.entries) answer
       take_answer answer said = subst (λ (s : Cache). IsKeepAnswer s.room s.pix s.copies x answer) view
           (subst (λ n. IsKeepAnswer n i.pix.items (somes (copies_in_store stores places)) x answer) k.copy_slots (taken answer said).2)

@@ -6,7 +6,7 @@ use Rattle.std.proofs.Math.ListN.{set}
 use Rattle.std.proofs.lemmas.Bool.{cases_eq, eq-eqb}
 use Rattle.std.proofs.lemmas.List.{get_or-set_other, get_or-set_same, get_or_default, set-get_or, set-set}
 use Rattle.std.proofs.lemmas.List.Sums.{count_by-le-length}
-use Rattle.air_model.specs.Reads.{Read}
+use Rattle.air_model.specs.Reads.{Read, read_with}
 use Rattle.air_model.specs.Copies.{goes_before, keep, with_copy}
 use Rattle.air_model.proofs.CopyOrders.{keep_all}
 use Rattle.pix_cache.specs.declared.leaf.Leaf.{Leaf}
@@ -15,7 +15,7 @@ use Rattle.pix_cache.specs.declared.cache.KeepAnswer.TheVariants.{Evicted, Place
 use Rattle.pix_cache.specs.Private.KeepAnswers.{IsKeepAnswer}
 use Rattle.pix_cache.specs.Stores.{StoredCopy}
 use Rattle.pix_cache.specs.Leaves.{nowhere, weight}
-use Rattle.pix_cache.specs.Caches.{Cache, copy}
+use Rattle.pix_cache.specs.Caches.{Cache}
 use Rattle.pix_cache.specs.CacheFields.{Agree, copies_in_store, somes, stored_read}
 use Rattle.pix_cache.proofs.SomeLemmas.{all_somes, count_somes, with_is}
 use Rattle.pix_cache.proofs.AgreeLemmas.{agree_put, counts, handed_on, new_leaf}
@@ -31,7 +31,7 @@ module _ (pix : List ℕ) (places : List (Option ℕ)) (leaves : List Leaf) (sto
   copies = somes (copies_in_store stores places)
 
   abbrev x : Read
-  x = copy item st.cycle st.value st.entries
+  x = read_with item st.cycle st.value st.entries
 
   long_os : item < length os
   long_os = omega (arith, long stores places)

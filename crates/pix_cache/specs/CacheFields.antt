@@ -3,16 +3,16 @@ use Rattle.std.specs.Prelude.{◌≡◌, ◌<◌, ◌≤◌, ℕ, true, List, []
 use Rattle.std.specs.List.{range_with_len}
 use Rattle.std.specs.Option.{is_some, option_map}
 use Rattle.air_base.specs.declared.limits.TheConstants.{ITEM_NUMBERS, MOST_ROOM}
-use Rattle.air_model.specs.Reads.{Read}
+use Rattle.air_model.specs.Reads.{Read, read_with}
 use Rattle.pix_cache.specs.declared.leaf.Leaf.{Leaf}
 use Rattle.pix_cache.specs.declared.cache.PixCache.TheInside.{Inside}
 use Rattle.pix_cache.specs.Stores.{StoredCopy, no_store}
 use Rattle.pix_cache.specs.Leaves.{copy_leaf, nowhere}
-use Rattle.pix_cache.specs.Caches.{Cache, copy}
+use Rattle.pix_cache.specs.Caches.{Cache}
 
 -- The copy of an item in a copy slot.
 abbrev pub stored_read : List StoredCopy → ℕ → ℕ → Read
-stored_read stores item copy_slot = copy item (get_or stores copy_slot no_store).cycle (get_or stores copy_slot no_store).value (get_or stores copy_slot no_store).entries
+stored_read stores item copy_slot = read_with item (get_or stores copy_slot no_store).cycle (get_or stores copy_slot no_store).value (get_or stores copy_slot no_store).entries
 
 -- The copy of each item, if it has one.
 abbrev pub copies_in_store : List StoredCopy → List (Option ℕ) → List (Option Read)

@@ -11,10 +11,6 @@ pub record Cache : Type 0 where
   pub pix : List ℕ
   pub copies : List Read
 
--- A copy of an item.
-abbrev pub copy : ℕ → ℕ → ℕ → List ℕ → Read
-copy item cycle value entries = record { item = item; cycle = cycle; value = value; entries = entries }
-
 -- The kept copy of an item.
 unfoldable pub copy_among : ℕ → List Read → Option Read
 copy_among item copies = find (λ r. r.item == item) copies

@@ -5,9 +5,9 @@
 
 ghost use Rattle.std.specs.Prelude.{◌≡◌, ◌≢◌, ◌↔◌, ◌<◌, ◌≤◌, ◌++◌, ℕ, true, [], List, length, sum_by, None, if◌then◌else◌, IfOk, MatchOption, IsPermutation, slice_set};
 ghost use Rattle.air_base.specs.declared.limits.TheConstants.{ITEM_NUMBERS, MOST_ROOM};
-ghost use Rattle.air_model.specs.Reads.{Read};
+ghost use Rattle.air_model.specs.Reads.{Read, read_with};
 ghost use Rattle.air_model.specs.Copies.{keep, pix_of, with_copy, without_item};
-ghost use Rattle.pix_cache.specs.Caches.{FindsRoom, GivesWay, HasCopy, IsLeastCopy, copy, copy_among};
+ghost use Rattle.pix_cache.specs.Caches.{FindsRoom, GivesWay, HasCopy, IsLeastCopy, copy_among};
 ghost use Rattle.pix_cache.specs.Private.KeepAnswers.{IsKeepAnswer};
 ghost use Rattle.pix_cache.specs.declared.cache.KeepAnswer.TheVariants.{Declined, Evicted, Placed, Replaced};
 
@@ -93,7 +93,7 @@ impl PixCache {
     pub fn get(&self, item: u16) -> Option<Kept<'_>>
         requires { item < length self.now.pix }
         ensures { MatchOption result (copy_among item self.now.copies ≡ None)
-            (λ k. copy_among item self.now.copies ≡ Some (copy item k.cycle k.value k.column.now)) }
+            (λ k. copy_among item self.now.copies ≡ Some (read_with item k.cycle k.value k.column.now)) }
     {
         let copy_slot = self.places[item as usize]?;
         Some(self.store.get(copy_slot))
@@ -106,11 +106,11 @@ impl PixCache {
         requires column { length column.now ≡ length self.old.pix }
 
         // The copies are those of the old ones and the newcomer with the greatest PIX numbers, as many as there is room for.
-        ensures kept { let x = copy item cycle value column.now in
+        ensures kept { let x = read_with item cycle value column.now in
             self.new ≡ record self.old { copies = keep self.old.room self.old.pix (with_copy x self.old.copies) } }
 
         // No choice of as many of these has a greater sum.
-        ensures most { let x = copy item cycle value column.now in (chosen rest : List Read) →
+        ensures most { let x = read_with item cycle value column.now in (chosen rest : List Read) →
             IsPermutation (chosen ++ rest) (with_copy x self.old.copies) → length chosen ≤ length self.new.copies →
             sum_by (pix_of self.old.pix) chosen ≤ sum_by (pix_of self.old.pix) self.new.copies }
 
@@ -119,11 +119,11 @@ impl PixCache {
             copy_among other self.new.copies ≡ copy_among other self.old.copies }
 
         // Each answer is given if and only if its condition holds.
-        ensures replaced { let x = copy item cycle value column.now in (result ≡ Replaced) ↔ HasCopy self.old.copies x }
-        ensures placed { let x = copy item cycle value column.now in (result ≡ Placed) ↔ FindsRoom self.old.room self.old.copies x }
-        ensures declined { let x = copy item cycle value column.now in
+        ensures replaced { let x = read_with item cycle value column.now in (result ≡ Replaced) ↔ HasCopy self.old.copies x }
+        ensures placed { let x = read_with item cycle value column.now in (result ≡ Placed) ↔ FindsRoom self.old.room self.old.copies x }
+        ensures declined { let x = read_with item cycle value column.now in
             (result ≡ Declined) ↔ IsLeastCopy self.old.room self.old.pix self.old.copies x }
-        ensures evicted { let x = copy item cycle value column.now in (least : ℕ) →
+        ensures evicted { let x = read_with item cycle value column.now in (least : ℕ) →
             (result ≡ Evicted least) ↔ GivesWay self.old.room self.old.pix self.old.copies x least }
     {
         self.offer(item, cycle, value, column)
@@ -133,11 +133,11 @@ impl PixCache {
     fn offer(&mut self, item: u16, cycle: u32, value: u64, column: &[u32]) -> KeepAnswer
         requires item { item < length self.old.pix }
         requires column { length column.now ≡ length self.old.pix }
-        ensures kept { let x = copy item cycle value column.now in
+        ensures kept { let x = read_with item cycle value column.now in
             self.new ≡ record self.old { copies = keep self.old.room self.old.pix (with_copy x self.old.copies) } }
         ensures others { (other : ℕ) → other < length self.old.pix → other ≢ item → result ≢ Evicted other →
             copy_among other self.new.copies ≡ copy_among other self.old.copies }
-        ensures answer { let x = copy item cycle value column.now in
+        ensures answer { let x = read_with item cycle value column.now in
             IsKeepAnswer self.old.room self.old.pix self.old.copies x result }
     {
         if let Some(copy_slot) = self.places[item as usize] {

@@ -5,24 +5,16 @@
 ghost use Rattle.std.specs.Prelude.{◌≡◌, ◌<◌, ◌≤◌, ℕ, List, ◌++◌, ◌∷◌, [], length, IfOk, IfSome, IsTrue};
 ghost use Rattle.air_history.specs.declared.histories.Event.{Event};
 ghost use Rattle.air_history.specs.Boards.{board_of};
-ghost use Rattle.air_sender.specs.BoardBuckets.{EntriesBelow};
+ghost use Rattle.air_sender.specs.BoardBuckets.{EntriesBelow, spread};
+ghost use Rattle.group_matrix.specs.GroupBoards.{grouped};
 
 use air_base::NoMemory;
 use air_base::limits::MOST_VALUES;
 use air_history::Event;
-use air_sender::below_law;
+use air_sender::{below_law, groups_below_law};
 use control_matrix::Board;
 use item_catalog::Deck;
 use std::alloc::Global;
-
-/// The values of a deck's items.
-fn values_of(alloc: Global, deck: &Deck) -> Result<Vec<u64>, NoMemory> {
-    let mut values = Vec::new(alloc);
-    for item in 0..deck.items() {
-        values.push(deck.value(item))?;
-    }
-    Ok(values)
-}
 
 /// The event of a part of the script: a start, or the commit of the update of updater 0 with this number.
 fn event(alloc: Global, deck: &Deck, part: u32, number: usize) -> Result<Option<Event>, NoMemory>
@@ -58,9 +50,10 @@ fn apply(board: &mut Board, event: &Event) -> bool
 /// The board of the script and a start, or `None` if an event doesn't fit.
 pub fn started_board(alloc: Global, deck: &Deck) -> Result<Option<Board>, NoMemory>
     ensures below { IfOk result (λ b. IfSome b EntriesBelow) }
+    ensures groups_below { IfOk result (λ b. IfSome b (λ b. (g : ℕ) → 0 < g → EntriesBelow (spread (grouped g b)))) }
     ensures started { IfOk result (λ b. IfSome b (λ b. 1 ≤ b.cycle)) }
 {
-    let values = values_of(alloc, deck)?;
+    let values = deck.values(alloc)?;
     if values.is_empty() || values.len() > MOST_VALUES {
         return Ok(None);
     }
@@ -81,5 +74,6 @@ pub fn started_board(alloc: Global, deck: &Deck) -> Result<Option<Board>, NoMemo
         return Ok(None);
     }
     below_law();
+    groups_below_law();
     Ok(Some(board))
 }

@@ -6,8 +6,8 @@ use Rattle.std.proofs.lemmas.List.FromFn.{length-enumerate_from}
 use Rattle.std.proofs.lemmas.Option.{get_or_from_slice_get, slice_get_within}
 use Rattle.std.proofs.lemmas.Simd.{map-map}
 use Rattle.air_base.specs.declared.verdicts.Policy.{Policy}
-use Rattle.air_history.specs.Columns.{scheme_of}
-use Rattle.air_model.specs.Aired.{Air, air_of, edition_at, pix_at, slots_at}
+use Rattle.air_history.specs.Columns.{Scheme}
+use Rattle.air_model.specs.Aired.{scheme_in, Air, air_of, edition_at, pix_at, slots_at}
 use Rattle.air_model.specs.Airings.{pix_number}
 use Rattle.air_model.specs.Buckets.{Bucket}
 use Rattle.air_model.specs.Decks.{Deck, count_editions, disks_in, edition, rates_in}
@@ -18,19 +18,20 @@ use Rattle.receiver_core.specs.declared.airs.Air.TheInside.{Inside}
 use Rattle.receiver_core.specs.AirFields.{air_in}
 
 -- What receivers know, by its parts.
-abbrev air_with : Policy → ℕ → ℕ → List ℕ → List (List (Option ℕ)) → List (List ℕ) → Air
-air_with policy version items replans slots pix = record { scheme = scheme_of policy; version = version; items = items; replans = replans; slots = slots; pix = pix }
+abbrev air_with : Scheme → ℕ → ℕ → List ℕ → List (List (Option ℕ)) → List (List ℕ) → Air
+air_with scheme version items replans slots pix = record { scheme = scheme; version = version; items = items; replans = replans; slots = slots; pix = pix }
 
-abbrev air_by : Policy → ℕ → ℕ → Plans → Air
-air_by policy version items plans = air_with policy version items plans.replans (map (λ (p : EditionDisks). program p.disks) plans.programs) plans.pix
+abbrev air_by : Scheme → ℕ → ℕ → Plans → Air
+air_by scheme version items plans = air_with scheme version items plans.replans (map (λ (p : EditionDisks). program p.disks) plans.programs) plans.pix
 
-pub air_is : (deck : Deck) (policy : Policy) (version items : ℕ) (plans : Plans) → policy ≡ deck.settings.policy → version ≡ deck.settings.version → items ≡ length deck.items → plans ≡ plans_in deck →
-    air_by policy version items plans ≡ air_of deck
-air_is deck policy version items plans p v i are =
+pub air_is : (deck : Deck) (policy : Policy) (group version items : ℕ) (plans : Plans) → policy ≡ deck.settings.policy → group ≡ deck.settings.group → version ≡ deck.settings.version → items ≡ length deck.items → plans ≡ plans_in deck →
+    air_by (record { policy = policy; group = group }) version items plans ≡ air_of deck
+air_is deck policy group version items plans p g v i are =
     let editions = range_with_len 0 (count_editions deck) in
-    let known = air_with deck.settings.policy deck.settings.version (length deck.items) (map (λ r. r.cycle) deck.replans) in
-    ap (λ p. air_by p version items plans) p ∙ ap (λ v. air_by deck.settings.policy v items plans) v ∙ ap (λ n. air_by deck.settings.policy deck.settings.version n plans) i
-    ∙ ap (air_by deck.settings.policy deck.settings.version (length deck.items)) are
+    let own = scheme_in deck in
+    let known = air_with own deck.settings.version (length deck.items) (map (λ r. r.cycle) deck.replans) in
+    ap (λ p. air_by (record { policy = p; group = group }) version items plans) p ∙ ap (λ g. air_by (record { policy = deck.settings.policy; group = g }) version items plans) g
+    ∙ ap (λ v. air_by own v items plans) v ∙ ap (λ n. air_by own deck.settings.version n plans) i ∙ ap (air_by own deck.settings.version (length deck.items)) are
     ∙ ap (λ slots. known slots (plans_in deck).pix) (map-map (λ (p : EditionDisks). program p.disks) (edition_disks deck) editions)
     ∙ ap (known (map (λ e. program (disks_in deck e)) editions)) (map-map (program_pix deck) (edition_disks deck) editions)
 

@@ -6,7 +6,7 @@ use Rattle.air_base.specs.declared.verdicts.ReadOf.{ReadOf}
 use Rattle.air_base.specs.declared.verdicts.Policy.{Policy}
 use Rattle.air_history.specs.Clashes.{HeardRead, clash_by_entries, is_late, read_at}
 use Rattle.air_history.specs.Reads.{ReadAt}
-use Rattle.air_history.specs.Columns.{scheme_of}
+use Rattle.air_history.specs.Columns.{Scheme, scheme_of}
 use Rattle.air_model.specs.Judges.{by_entries, heard_of, place_of}
 use Rattle.air_model.specs.Reads.{Read}
 use Rattle.air_model.specs.SessionLaws.{are_far}
@@ -51,6 +51,11 @@ unfolding by_entries
 clash_at a v x k is =
     ap (λ (h : HeldReads). clash_by_entries a.policy h.reads (heard_of x)) (sym (columns_are a k))
     ∙ ap (λ (w : HeldValues). clash_by_entries w.policy (map heard_of w.reads) (heard_of x)) is
+
+-- The entries judge by the policy alone, with groups or without.
+pub entries_clash : (s : Scheme) (p : Policy) (R : List Read) (x : Read) → p ≡ s.policy → (by_entries s).clash R x ≡ (by_entries (scheme_of p)).clash R x
+unfolding by_entries
+entries_clash s p R x same = ap (λ q. clash_by_entries q (map heard_of R) (heard_of x)) (sym same)
 
 -- The held reads have their places in both.
 places : (a : Inside) (v : HeldValues) → KeepsBoth a → held_values a ≡ v → map read_at a.held.reads ≡ map place_of v.reads

@@ -9,7 +9,7 @@ use Rattle.std.proofs.lemmas.Simd.{map-map}
 use Rattle.air_base.specs.declared.verdicts.Policy.{Policy}
 use Rattle.air_base.specs.declared.verdicts.Policy.TheVariants.{FMatrix, Datacycle, RMatrix}
 use Rattle.air_history.specs.declared.histories.Event.{Event}
-use Rattle.air_history.specs.Clashes.{clash_by_history, read_at}
+use Rattle.air_history.specs.Clashes.{clash_of, read_at}
 use Rattle.air_history.specs.ClashLaws.{Accepts, IsAllowed, IsSound}
 use Rattle.air_history.specs.Columns.{aired_entries}
 use Rattle.air_history.specs.Reads.{IsRead, read_value}
@@ -65,18 +65,18 @@ aired_gives V air H slots (Some b) h = λ t.
 module _ (air : Air) (H : List Event) (reader : Reader) (filled : QueriesFilled reader) where
   -- what the held reads keep
   abbrev K : ℕ → ℕ → List Read → Type 0
-  K q a R = All (IsReadIn air H) R × IsAllowed air.scheme.policy (map place_of R) × Accepts air.scheme.policy H (map place_of R)
+  K q a R = All (IsReadIn air H) R × IsAllowed air.scheme.policy (map place_of R) × Accepts air.scheme air.items H (map place_of R)
 
   abbrev ok : State → Type 0
   ok = Good reader (IsReadIn air H) K (λ l. Unit {0})
 
   -- a read that the entries let pass is one that the history lets pass, where it doesn't lie too far from the held ones
   passes_too : (R : List Read) (x : Read) → All (IsReadIn air H) R → IsReadIn air H x → lies_far air R x ≡ false → IsAllowed air.scheme.policy (map place_of R ++ place_of x ∷ []) →
-      (by_entries air.scheme).clash R x ≡ None → clash_by_history air.scheme.policy H (map place_of R) (place_of x) ≡ None
+      (by_entries air.scheme).clash R x ≡ None → clash_of air.scheme air.items H (map place_of R) (place_of x) ≡ None
   unfolding by_entries
   passes_too R x are is near allowed none =
       let same : map read_at (map heard_of R) ≡ map place_of R = map-map read_at heard_of R in
-      subst (λ S. clash_by_history air.scheme.policy H S (place_of x) ≡ None) same
+      subst (λ S. clash_of air.scheme air.items H S (place_of x) ≡ None) same
       (clash_told air.scheme air.items H (map heard_of R) (heard_of x)
       (have_aired air.scheme air.version air.items H (map heard_of R) (heard_of x) (All-map (MayBeHeard air.scheme air.version air.items H) heard_of R are) is
       (subst (λ S. are_far air.version (S ++ place_of x ∷ []) ≡ false) (sym same) near))
@@ -84,15 +84,15 @@ module _ (air : Air) (H : List Event) (reader : Reader) (filled : QueriesFilled 
 
   rules : Keeps (by_entries air.scheme) air reader (IsReadIn air H) K (λ l. Unit {0})
   rules = record {
-    first = λ q. (All-nil (IsReadIn air H), allowed_none air.scheme.policy, accepts_none air.scheme.policy H);
-    again = λ q a R k l. (All-nil (IsReadIn air H), allowed_none air.scheme.policy, accepts_none air.scheme.policy H);
+    first = λ q. (All-nil (IsReadIn air H), allowed_none air.scheme.policy, accepts_none air.scheme air.items H);
+    again = λ q a R k l. (All-nil (IsReadIn air H), allowed_none air.scheme.policy, accepts_none air.scheme air.items H);
     more = λ q a R x k is judged near none.
         let p = air.scheme.policy in
         let pushed : map place_of R ++ place_of x ∷ [] ≡ map place_of (R ++ x ∷ []) = sym (map-append place_of R (x ∷ [])) in
         let allowed = allowed_more p (map place_of R) (place_of x) k.1 judged.in_time in (
           All-push (IsReadIn air H) R x k.0 is,
           subst (IsAllowed p) pushed allowed,
-          subst (Accepts p H) pushed (accepts_push p H (map place_of R) (place_of x) k.2 judged.in_time (passes_too R x k.0 is near allowed none)),
+          subst (Accepts air.scheme air.items H) pushed (accepts_push air.scheme air.items H (map place_of R) (place_of x) k.2 judged.in_time (passes_too R x k.0 is near allowed none)),
         );
     accepted = λ q a R k l e. tt;
     aborted = λ q a R x c k is judged near e. tt;
@@ -128,4 +128,4 @@ module _ (air : Air) (H : List Event) (reader : Reader) (filled : QueriesFilled 
 
 -- Reads that are held truly are consistent, and share the policy's cycle.
 pub held_sound : (air : Air) (H : List Event) (reader : Reader) (s : State) → HoldsTruly air H reader s → IsSound air.scheme.policy H (map place_of s.held)
-held_sound air H reader s h = accepted air.scheme.policy H (map place_of s.held) (All-map IsRead place_of s.held (λ k d l. (h.held k d l).0.cycle)) h.accepted
+held_sound air H reader s h = accepted air.scheme air.items H (map place_of s.held) (All-map IsRead place_of s.held (λ k d l. (h.held k d l).0.cycle)) h.accepted

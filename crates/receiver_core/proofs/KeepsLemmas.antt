@@ -120,7 +120,7 @@ wanted_within r (Some i) k e =
 -- So has the item of a held read that clashes.
 clash_within : (r : Inside) (x : Read) (c : Clash) → IsReceiver r → r.query < length r.reader.queries → (by_entries r.air.scheme).clash r.held.reads x ≡ Some c → c.item < length r.copies.pix
 clash_within r x c k here e =
-    let held : Contains (map (λ (y : Read). y.item) r.held.reads) c.item = (names r.air.scheme [] []).1 r.held.reads x c e in
+    let held : Contains (map (λ (y : Read). y.item) r.held.reads) c.item = (names r.air.scheme 0 [] []).1 r.held.reads x c e in
     let first : All (λ i. i < r.air.items) (take (length r.held.reads) (at_hand r)) = All-take (λ i. i < r.air.items) (length r.held.reads) (at_hand r) (k.deck.within r.query [] here) in
     let below : c.item < r.air.items = All-contains (λ i. i < r.air.items) (take (length r.held.reads) (at_hand r)) c.item first (subst (λ is. Contains is c.item) k.held.first held) in
     let all : length r.copies.pix ≡ r.air.items = ap length k.cache.pix ∙ k.deck.numbers r.latest in

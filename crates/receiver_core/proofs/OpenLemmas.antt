@@ -13,13 +13,13 @@ use Rattle.air_model.specs.Aired.{pix_at}
 use Rattle.air_model.specs.Buckets.{Body, Bucket, Column, Idle, IsInRange, Vector, count_of, entries_of, item_of, kind_of, value_of}
 use Rattle.air_model.specs.Copies.{keep, with_copy, without_item}
 use Rattle.air_model.specs.Judges.{by_entries, heard_of, place_of}
-use Rattle.air_model.specs.Reads.{Read}
+use Rattle.air_model.specs.Reads.{Read, read_with}
 use Rattle.air_model.specs.Sessions.{accept_if_whole, comes_aged, comes_late, next_attempt, open_bucket, query_of, wanted, with_line}
 use Rattle.air_model.specs.SessionLaws.{are_far}
 use Rattle.air_model.proofs.MomentLemmas.{or_false}
 use Rattle.air_history.specs.HeldReads.{IsNew}
 use Rattle.pix_cache.specs.Caches.{Cache}
-use Rattle.receiver_core.specs.Private.Attempts.{HeldValues, columns_of, read, read_from_bucket}
+use Rattle.receiver_core.specs.Private.Attempts.{HeldValues, columns_of, read_from_bucket}
 use Rattle.receiver_core.specs.Private.Offers.{without_clash}
 use Rattle.receiver_core.specs.LastReads.{in_state}
 use Rattle.receiver_core.specs.Receivers.{Receiver}
@@ -77,10 +77,10 @@ entries_counted (Vector item value entries) k = refl
 
 -- What was taken of a bucket, part by part, is the read that it gives.
 pub read_parts : (b : Bucket) (item cycle value : ℕ) (entries : List ℕ) → item ≡ item_of b.body → cycle ≡ b.cycle → value ≡ value_of b.body → entries ≡ entries_of b.body →
-    read_from_bucket b ≡ read item cycle value entries
+    read_from_bucket b ≡ read_with item cycle value entries
 read_parts b item cycle value entries i c v e =
-    ap (λ n. read n b.cycle (value_of b.body) (entries_of b.body)) (sym i) ∙ ap (λ n. read item n (value_of b.body) (entries_of b.body)) (sym c)
-    ∙ ap (λ n. read item cycle n (entries_of b.body)) (sym v) ∙ ap (read item cycle value) (sym e)
+    ap (λ n. read_with n b.cycle (value_of b.body) (entries_of b.body)) (sym i) ∙ ap (λ n. read_with item n (value_of b.body) (entries_of b.body)) (sym c)
+    ∙ ap (λ n. read_with item cycle n (entries_of b.body)) (sym v) ∙ ap (read_with item cycle value) (sym e)
 
 -- The read of a bucket with an item and an entry for each of the items is whole.
 pub bucket_read : (b : Bucket) (n : ℕ) → IsInRange b → kind_of b.body ≢ 0 → count_of b.body ≡ n → IsWholeRead n (read_from_bucket b)

@@ -24,7 +24,7 @@ pub record HoldsTruly (air : Air) (H : List Event) (reader : Reader) (s : State)
   pub held : All (IsReadIn air H) s.held
   pub copies : All (IsReadIn air H) s.copies
   pub allowed : IsAllowed air.scheme.policy (map place_of s.held)
-  pub accepted : Accepts air.scheme.policy H (map place_of s.held)
+  pub accepted : Accepts air.scheme air.items H (map place_of s.held)
   pub at_hand : s.query < length reader.queries → is_some (wanted reader s) ≡ true
 
 -- The history, with these values at its start, aired the heard member, if it is a bucket that fits.

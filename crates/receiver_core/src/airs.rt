@@ -1,4 +1,5 @@
-//! What all receivers of a deck know: the policy, the version, the number of items, and the plans, which all of them share.
+//! What all receivers of a deck know: the policy and the group, the version, the number of items, and the plans, which all of them share.
+//! A receiver judges by the entries that it hears; none looks at the group.
 
 ghost use Rattle.std.specs.Prelude.{◌≡◌, ◌<◌, ◌≤◌, ℕ, length, IfOk};
 ghost use Rattle.air_base.specs.declared.limits.TheConstants.{MOST_ITEMS};
@@ -12,11 +13,12 @@ use bucket_codec::{BucketView, ViewKind};
 use chunk_program::{PlannedRef, Plans};
 use std::marker::Model;
 
-/// The policy, the version of the buckets, the number of items, and the plans: which item each slot of a cycle carries, and which PIX
-/// number each item has in it.
+/// The policy, the number of items of a group, the version of the buckets, the number of items, and the plans: which item each slot of a cycle
+/// carries, and which PIX number each item has in it.
 #[derive(Drop)]
 pub struct Air {
     policy: Policy,
+    group: u16,
     version: u8,
     items: u16,
     plans: Plans,
@@ -43,6 +45,7 @@ impl Air {
         let settings = deck.settings();
         Ok(Air {
             policy: settings.policy,
+            group: settings.group,
             version: settings.version,
             items: deck.items(),
             plans: planned.plans().share()?,

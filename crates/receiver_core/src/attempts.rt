@@ -9,7 +9,8 @@ ghost use Rattle.air_history.specs.Clashes.{is_late};
 ghost use Rattle.air_model.specs.Judges.{by_entries, heard_of, place_of};
 ghost use Rattle.air_model.specs.SessionLaws.{are_far};
 ghost use Rattle.air_history.specs.HeldReads.{IsNew};
-ghost use Rattle.receiver_core.specs.Private.Attempts.{columns_of, line_read, read};
+ghost use Rattle.air_model.specs.Reads.{read_with};
+ghost use Rattle.receiver_core.specs.Private.Attempts.{columns_of, line_read};
 
 use crate::checks::{clash_under, is_late_under};
 use crate::reads::ReadList;
@@ -82,9 +83,9 @@ impl Attempt {
     /// Holds the read where it clashes with no held one, and else names the clash.
     pub fn try_hold(&mut self, item: u16, cycle: u32, value: u64, entries: &[u32]) -> Option<Clash>
         requires room { length self.old.reads < ROOM }
-        requires new { IsNew (columns_of self.old) (heard_of (read item cycle value entries.now)) }
-        ensures clash { result ≡ (by_entries (scheme_of self.old.policy)).clash self.old.reads (read item cycle value entries.now) }
-        ensures held { MatchOption result (self.new ≡ record self.old { reads = self.old.reads ++ read item cycle value entries.now ∷ [] }) (λ _. self.new ≡ self.old) }
+        requires new { IsNew (columns_of self.old) (heard_of (read_with item cycle value entries.now)) }
+        ensures clash { result ≡ (by_entries (scheme_of self.old.policy)).clash self.old.reads (read_with item cycle value entries.now) }
+        ensures held { MatchOption result (self.new ≡ record self.old { reads = self.old.reads ++ read_with item cycle value entries.now ∷ [] }) (λ _. self.new ≡ self.old) }
     {
         if let Some(clash) = clash_under(self.policy, &self.held, item, cycle, entries) {
             return Some(clash);

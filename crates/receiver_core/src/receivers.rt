@@ -215,7 +215,7 @@ impl Receiver {
         }
     }
 
-    /// The query at hand stays unfinished, and the next one begins; all copies are dropped.
+    /// The query at hand stays unfinished, and the next one begins; all copies are dropped. Where no query is left, only the copies are dropped.
     pub fn end(&mut self) -> Option<Verdict>
         requires settled { IsSettled self.old }
         ensures state { record self.new.state { lines = lines_of result self.new.last } ≡ end_query (by_entries self.old.air.scheme) self.old.air self.old.reader self.old.state }
@@ -236,7 +236,8 @@ impl Receiver {
         self.waiting.take()
     }
 
-    /// The reads of the last verdict, in the order of reading; none before the first verdict.
+    /// The reads of the last verdict, in the order of reading; none before the first verdict. From the call that makes a verdict they are its reads, even
+    /// before `step` returns it.
     pub fn last_reads(&self) -> &[ReadOf]
         ensures { result.now ≡ self.now.last }
     {

@@ -7,7 +7,7 @@ use Rattle.air_history.specs.Descents.{descends, descends_in}
 use Rattle.air_history.specs.Tables.{value_on_base, write_of, value_after, table}
 use Rattle.air_history.specs.Reads.{origin, stale}
 use Rattle.air_history.specs.Consistency.{descends_from, runs_alone, last_alone, consistent}
-use Rattle.air_history.specs.Clashes.{least, is_late, clash_by_history}
+use Rattle.air_history.specs.Clashes.{least, is_late, clash_by_history, group_clash}
 use Rattle.air_history.specs.ClashLaws.{passes}
 use Rattle.air_model.specs.Decks.{Deck, IsLegal}
 use Rattle.air_model.specs.Reports.{total_at}
@@ -22,7 +22,7 @@ use Rattle.live_replay.specs.Audits.{findings}
 use Rattle.live_replay.specs.Findings.{all_pass, is_refused, is_clash, spans_so, verdict_cause, look_cause}
 use Rattle.live_replay.specs.declared.findings.Cause.TheVariants as cause
 use Rattle.report_pins.specs.SmallDeck.{small_deck}
-use Rattle.report_pins.specs.SmallReports.{r_matrix_deck, found, history, late_report, read_report}
+use Rattle.report_pins.specs.SmallReports.{r_matrix_deck, found, group_deck, group_report, history, late_report, read_report}
 
 -- ---- in the grammar
 
@@ -31,6 +31,9 @@ legal = same_legal small_deck history (refl, (refl, (refl, (refl, (refl, tt)))))
 
 r_matrix_legal : IsLegal r_matrix_deck history
 r_matrix_legal = same_legal r_matrix_deck history (refl, (refl, (refl, (refl, (refl, tt))))) refl
+
+group_legal : IsLegal group_deck history
+group_legal = same_legal group_deck history (refl, (refl, (refl, (refl, (refl, tt))))) refl
 
 verdicts_right : All (λ line. IsRight small_deck 2 (Verdict line)) read_report.report.verdicts
 verdicts_right zero d below = record { known = refl; begun = refl }
@@ -48,6 +51,11 @@ late_verdicts_right zero d below = record { known = refl; begun = refl }
 late_verdicts_right (suc zero) d below = record { known = refl; begun = refl }
 late_verdicts_right (suc (suc k)) d below = absurd (omega arith)
 
+group_verdicts_right : All (λ line. IsRight group_deck 2 (Verdict line)) group_report.report.verdicts
+group_verdicts_right zero d below = record { known = refl; begun = refl }
+group_verdicts_right (suc zero) d below = record { known = refl; begun = refl }
+group_verdicts_right (suc (suc k)) d below = absurd (omega arith)
+
 lines : InGrammar small_deck (lines_in read_report.report)
 lines = record {
   events = (refl, (refl, (refl, (refl, (refl, tt)))));
@@ -61,6 +69,15 @@ late_lines : InGrammar r_matrix_deck (lines_in late_report.report)
 late_lines = record {
   events = (refl, (refl, (refl, (refl, (refl, tt)))));
   verdicts = late_verdicts_right;
+  counts = All-nil _;
+  glances = All-nil _;
+  looks = All-nil _;
+}
+
+group_lines : InGrammar group_deck (lines_in group_report.report)
+group_lines = record {
+  events = (refl, (refl, (refl, (refl, (refl, tt)))));
+  verdicts = group_verdicts_right;
   counts = All-nil _;
   glances = All-nil _;
   looks = All-nil _;
@@ -94,6 +111,20 @@ late_kept = record {
   few_looks = omega arith;
 }
 
+group_kept : KeepsGrammar group_deck group_report
+group_kept = record {
+  legal = group_legal;
+  known = known_of group_deck (lines_in group_report.report) group_lines;
+  begun = begun_of group_deck (lines_in group_report.report) group_lines;
+  verdict_rows = refl;
+  glance_rows = refl;
+  look_rows = refl;
+  few_events = omega arith;
+  few_verdicts = omega arith;
+  few_glances = omega arith;
+  few_looks = omega arith;
+}
+
 -- The deck and the report are given by equations, as a call has them.
 pub kept_given : (d deck : Deck) (r report : ReadReport) → d ≡ deck → r ≡ report → KeepsGrammar deck report → KeepsGrammar d r
 kept_given d deck r report is given keeps = subst (λ v. KeepsGrammar v r) (sym is) (subst (λ v. KeepsGrammar deck v) (sym given) keeps)
@@ -103,6 +134,9 @@ read_kept d r is given = kept_given d small_deck r read_report is given kept
 
 pub late_read_kept : (d : Deck) (r : ReadReport) → d ≡ r_matrix_deck → r ≡ late_report → KeepsGrammar d r
 late_read_kept d r is given = kept_given d r_matrix_deck r late_report is given late_kept
+
+pub group_read_kept : (d : Deck) (r : ReadReport) → d ≡ group_deck → r ≡ group_report → KeepsGrammar d r
+group_read_kept d r is given = kept_given d group_deck r group_report is given group_kept
 
 -- ---- the findings
 
@@ -114,9 +148,16 @@ late_found : findings r_matrix_deck late_report ≡ found 6 (Some cause.Verdict)
 unfolding findings verdict_cause all_pass is_refused is_clash spans_so passes is_late clash_by_history least stale origin writer writer_before writes is_start front last_place table value_after write_of value_on_base
 late_found = refl
 
+group_found : findings group_deck group_report ≡ found 6 None ∷ found 7 (Some cause.Verdict) ∷ []
+unfolding findings verdict_cause all_pass is_refused is_clash spans_so passes is_late group_clash least origin consistent last_alone runs_alone descends_from descends descends_in writer writer_before writes reads is_start front last_place table value_after write_of value_on_base
+group_found = refl
+
 pub read_findings : (d : Deck) (r : ReadReport) → d ≡ small_deck → r ≡ read_report
     → findings d r ≡ found 6 None ∷ found 7 None ∷ found 8 (Some cause.Verdict) ∷ found 9 (Some cause.Value) ∷ found 10 None ∷ []
 read_findings d r is given = rw is (rw given read_found)
 
 pub late_findings : (d : Deck) (r : ReadReport) → d ≡ r_matrix_deck → r ≡ late_report → findings d r ≡ found 6 (Some cause.Verdict) ∷ found 7 None ∷ []
 late_findings d r is given = rw is (rw given late_found)
+
+pub group_findings : (d : Deck) (r : ReadReport) → d ≡ group_deck → r ≡ group_report → findings d r ≡ found 6 None ∷ found 7 (Some cause.Verdict) ∷ []
+group_findings d r is given = rw is (rw given group_found)

@@ -26,7 +26,7 @@ small_deck = record {
   readers = record { room = 0; age = 0; tries = 2 } ∷ [];
   queries = ((0 ∷ 3 ∷ []) ∷ (0 ∷ 1 ∷ 2 ∷ []) ∷ (0 ∷ 1 ∷ []) ∷ (0 ∷ 2 ∷ []) ∷ []) ∷ [];
   script = [];
-  settings = record { policy = FMatrix; version = 1; cycles = 2; seed = 0; loss = 0; again = 0; late = 0; monitors = 1; hears = 1 };
+  settings = record { policy = FMatrix; version = 1; group = 0; cycles = 2; seed = 0; loss = 0; again = 0; late = 0; monitors = 1; hears = 1 };
 }
 
 -- The same deck with buckets of version 2.

@@ -56,6 +56,18 @@ late_report = report_in_rows
     (6 ∷ 7 ∷ [])
     []
 
+-- The deck with groups of two items.
+abbrev pub group_deck : Deck
+group_deck = record small_deck { settings = record small_deck.settings { group = 2 } }
+
+-- By groups: an abort whose read clashes with a newer one, in whose group its own item was written since, and an accept of both reads.
+abbrev pub group_report : ReadReport
+group_report = report_in_rows
+    (ended (Abort 1 1 0) 2 (reported_read 0 2 11 ∷ []) ∷ ended Accept 2 (reported_read 0 2 11 ∷ reported_read 1 1 20 ∷ []) ∷ [])
+    []
+    (6 ∷ 7 ∷ [])
+    []
+
 -- Over 256 starts and no commit: an aged attempt whose next read is 255 cycles from its first, and one whose next read is 254 from it.
 abbrev pub far_report : ReadReport
 far_report = record {

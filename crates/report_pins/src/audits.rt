@@ -17,6 +17,7 @@ use std::alloc::Global;
 
 /// A finding has its own row and its own cause, and the last row has the number of the findings before it that differ. It also refuses that these two
 /// are exchanged, and that rows are counted from 0.
+/// Promise: the command prints the audit
 #[tactic(auto, using(crate::proofs::AuditLemmas::text_of_findings))]
 pub fn clash_told_as_verdict(alloc: Global, findings: &[Finding]) -> Result<Vec<u8>, NoMemory>
     requires { findings.now ≡ found 5 None ∷ found 6 (Some Cause.Clash) ∷ [] }
@@ -26,6 +27,7 @@ pub fn clash_told_as_verdict(alloc: Global, findings: &[Finding]) -> Result<Vec<
 }
 
 /// If one line of two differs, the audit says so, with the text of both. It also refuses that the findings are left out.
+/// Promise: the command prints the audit
 pub fn differs_only_where_all_do(
     alloc: Global,
     deck: &Deck,
@@ -40,6 +42,7 @@ pub fn differs_only_where_all_do(
 }
 
 /// An unknown tag is of kind 3.
+/// Promise: every answer is a named one
 pub fn kind_of_a_fault_forgotten(
     alloc: Global,
     deck: &Deck,
@@ -53,6 +56,7 @@ pub fn kind_of_a_fault_forgotten(
 }
 
 /// A report that needs one replay more than the limit is refused, with that number.
+/// Promise: every answer is a named one
 pub fn too_much_without_its_product(
     alloc: Global,
     deck: &Deck,

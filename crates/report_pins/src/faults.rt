@@ -10,6 +10,7 @@ use item_catalog::Deck;
 use std::alloc::Global;
 
 /// An accept has all items of its query.
+/// Promise: texts are exact
 pub fn accept_of_a_proper_prefix(
     alloc: Global,
     deck: &Deck,
@@ -23,6 +24,7 @@ pub fn accept_of_a_proper_prefix(
 }
 
 /// `aged` is an unknown tag if buckets have no ages.
+/// Promise: texts are exact
 pub fn aged_where_buckets_have_no_ages(
     alloc: Global,
     deck: &Deck,
@@ -36,6 +38,7 @@ pub fn aged_where_buckets_have_no_ages(
 }
 
 /// If they have ages, it is a tag, so one alone lacks its fields.
+/// Promise: texts are exact
 pub fn aged_unknown_where_buckets_have_ages(
     alloc: Global,
     deck: &Deck,
@@ -49,6 +52,7 @@ pub fn aged_unknown_where_buckets_have_ages(
 }
 
 /// A byte after a place makes the field no place.
+/// Promise: texts are exact
 pub fn bytes_behind_a_place_forgotten(
     alloc: Global,
     deck: &Deck,
@@ -62,6 +66,7 @@ pub fn bytes_behind_a_place_forgotten(
 }
 
 /// Nothing is read in cycle 0, the catalog.
+/// Promise: texts are exact
 pub fn catalog_taken_for_a_cycle_of_a_read(
     alloc: Global,
     deck: &Deck,
@@ -75,6 +80,7 @@ pub fn catalog_taken_for_a_cycle_of_a_read(
 }
 
 /// Each updater's commits are counted from 0.
+/// Promise: texts are exact
 pub fn commits_of_another_updater(
     alloc: Global,
     deck: &Deck,
@@ -88,6 +94,7 @@ pub fn commits_of_another_updater(
 }
 
 /// A cycle has to start before it is read, and not after.
+/// Promise: texts are exact
 pub fn cycle_among_all_starts_of_the_report(
     alloc: Global,
     deck: &Deck,
@@ -101,6 +108,7 @@ pub fn cycle_among_all_starts_of_the_report(
 }
 
 /// If a line comes late and has no cycle, the least kind is answered.
+/// Promise: texts are exact
 pub fn greatest_kind_of_a_report(
     alloc: Global,
     deck: &Deck,
@@ -114,6 +122,7 @@ pub fn greatest_kind_of_a_report(
 }
 
 /// Of two faulty records the first is answered. It also refuses that the record after it is answered.
+/// Promise: texts are exact
 pub fn later_fault_for_the_first(
     alloc: Global,
     deck: &Deck,
@@ -127,6 +136,7 @@ pub fn later_fault_for_the_first(
 }
 
 /// No start comes after a glance.
+/// Promise: texts are exact
 pub fn order_that_forgets_glances(
     alloc: Global,
     deck: &Deck,

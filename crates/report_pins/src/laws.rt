@@ -11,6 +11,7 @@ ghost use Rattle.report_pins.specs.SmallDeck.{small_deck, two_commits};
 use air_report::{not_both_reports_law, one_report_law, read_back_law};
 
 /// A text that spells a report has no fault.
+/// Promise: texts are exact
 pub fn fault_beside_the_lines()
     ensures { (report : Report) (row kind : ℕ) →
         SpellsReport small_deck two_commits report → HasReportFault small_deck two_commits row kind → ⊥ }
@@ -19,6 +20,7 @@ pub fn fault_beside_the_lines()
 }
 
 /// No text spells two reports.
+/// Promise: texts are exact
 pub fn two_reports_of_a_text()
     ensures { (a b : Report) → SpellsReport small_deck two_commits a → SpellsReport small_deck two_commits b → a ≡ b }
 {
@@ -26,6 +28,7 @@ pub fn two_reports_of_a_text()
 }
 
 /// What is written of a report in the grammar has no fault.
+/// Promise: texts are exact
 pub fn written_report_with_a_fault()
     ensures { (report : Report) (row kind : ℕ) → HasWidths report → InGrammar small_deck (lines_in report) →
         HasReportFault small_deck (report_text report) row kind → ⊥ }

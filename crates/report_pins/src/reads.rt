@@ -10,6 +10,7 @@ use item_catalog::Deck;
 use std::alloc::Global;
 
 /// Rows are counted from 1, through all sections. It also refuses that looks have the rows of glances.
+/// Promise: the audit is its definition
 pub fn rows_from_nought(alloc: Global, deck: &Deck, bytes: &[u8]) -> Result<ReadReport, ReportError>
     requires deck { deck.now ≡ small_deck }
     requires bytes { bytes.now ≡ each_section }
@@ -21,6 +22,7 @@ pub fn rows_from_nought(alloc: Global, deck: &Deck, bytes: &[u8]) -> Result<Read
 }
 
 /// Each commit has the deck's update of its own number.
+/// Promise: texts are exact
 pub fn update_of_another_number(
     alloc: Global,
     deck: &Deck,

@@ -5,7 +5,7 @@ ghost use Rattle.std.specs.Prelude.{◌≡◌, ◌⊎◌, [], ◌∷◌, Err, So
 ghost use Rattle.air_report.specs.KeptReports.{KeepsGrammar};
 ghost use Rattle.live_replay.specs.Audits.{replayed_in};
 ghost use Rattle.report_pins.specs.SmallDeck.{small_deck, young_deck};
-ghost use Rattle.report_pins.specs.SmallReports.{r_matrix_deck, far_report, found, late_report, read_report};
+ghost use Rattle.report_pins.specs.SmallReports.{r_matrix_deck, far_report, found, group_deck, group_report, late_report, read_report};
 
 use air_report::ReadReport;
 use item_catalog::Deck;
@@ -17,6 +17,8 @@ use std::alloc::Global;
 /// In row 8, that values alone are replayed, since its abort is of a read that passes.
 /// In row 9, that the verdict is answered before the value.
 /// In row 10, that a look is judged a cycle early.
+/// Promise: the audit is its definition
+/// Promise: the audit agrees with true sessions
 #[tactic(auto, using(crate::proofs::ReplayLemmas::read_findings))]
 pub fn descents_of_one_read_alone(
     alloc: Global,
@@ -32,6 +34,8 @@ pub fn descents_of_one_read_alone(
 
 /// Under R-Matrix a read that comes late differs, though nothing writes its item. It also refuses, in row 7, that an abort names the greatest of the
 /// items with which its read clashes.
+/// Promise: the audit is its definition
+/// Promise: the audit agrees with true sessions
 #[tactic(auto, using(crate::proofs::ReplayLemmas::late_findings))]
 pub fn late_read_passes(
     alloc: Global,
@@ -45,7 +49,24 @@ pub fn late_read_passes(
     audit(alloc, deck, report)
 }
 
+/// By groups a read clashes with a newer one where its item was written since, though they are consistent: the item is of the newer one's
+/// group. It also refuses, in row 7, that the group of the new read is asked.
+/// Promise: the audit is its definition
+#[tactic(auto, using(crate::proofs::ReplayLemmas::group_findings))]
+pub fn group_judged_by_two_reads_alone(
+    alloc: Global,
+    deck: &Deck,
+    report: &ReadReport,
+) -> Result<Vec<Finding>, AuditError>
+    requires deck { deck.now ≡ group_deck }
+    requires report { report.now ≡ group_report }
+    ensures { IfOk result (λ list. list.items ≡ found 6 None ∷ found 7 (Some Cause.Verdict) ∷ []) }
+{
+    audit(alloc, deck, report)
+}
+
 /// The reads of an aged attempt are 255 cycles apart, including the named one. It also refuses, in row 258, that 254 cycles are too far.
+/// Promise: the audit is its definition
 #[tactic(auto, using(crate::proofs::FarLemmas::far_findings))]
 pub fn span_without_the_named_read(
     alloc: Global,
@@ -60,6 +81,7 @@ pub fn span_without_the_named_read(
 }
 
 /// Fifty million replays aren't too many.
+/// Promise: the audit is its definition
 pub fn too_much_at_the_limit(
     alloc: Global,
     deck: &Deck,
@@ -73,6 +95,7 @@ pub fn too_much_at_the_limit(
 }
 
 /// One replay more than fifty million is too much, and the refusal has exactly that number.
+/// Promise: the audit is its definition
 pub fn too_much_by_another_product(
     alloc: Global,
     deck: &Deck,

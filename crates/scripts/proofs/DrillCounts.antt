@@ -105,7 +105,7 @@ unfolding true_sessions drill_deck
 drill_sums seed size seeded some few =
     let deck = drill_deck seed size in
     let H = script_history deck in
-    let judge = by_history (scheme_in deck) (values_in deck) H in
+    let judge = by_history (scheme_in deck) (length deck.items) (values_in deck) H in
     let one : ℕ → State = λ r. session_of judge deck r (map bucket_in (ether_of deck H r)) in
     let readers = range_with_len 0 (length deck.readers) in
     let limits = (drill_made seed size seeded some few).1 in

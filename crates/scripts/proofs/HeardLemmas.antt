@@ -1,6 +1,6 @@
--- A run whose readers hear each cycle from the board: there is room to count it, and what they were given then.
--- `PieceRun::hear`, `PieceRun::next_heard` and the loop of `hear_perfect_script` cite these.
-use Rattle.std.proofs.Common.{◌≡◌, ℕ, zero, suc, true, ◌+◌, ◌<◌, ◌≤◌, Option, Some, None, List, [], ◌∷◌, ◌++◌, length, map, take, get_or, All, refl, sym, ◌∙◌, ap, subst, arith, length-append}
+-- A run whose readers hear each cycle from its source: there is room to count it, and what they were given then.
+-- `hear_from`, `PieceRun::next_heard` and the loop of `hear_perfect_script` cite these.
+use Rattle.std.proofs.Common.{◌≡◌, ℕ, zero, suc, true, ◌+◌, ◌<◌, ◌≤◌, Some, List, [], ◌∷◌, ◌++◌, length, map, take, get_or, All, refl, sym, ◌∙◌, ap, subst, arith, length-append}
 use Rattle.std.specs.Prelude.{IsTrue}
 use Rattle.std.specs.List.{range_with_len}
 use Rattle.std.proofs.lemmas.List.{get_or-take, length-take, take-take}
@@ -11,16 +11,16 @@ use Rattle.air_base.specs.declared.verdicts.Form.{Form}
 use Rattle.air_history.specs.declared.histories.Event.{Event}
 use Rattle.air_history.specs.declared.histories.Event.TheVariants.{Commit, Start}
 use Rattle.air_history.specs.Histories.{is_start}
-use Rattle.air_history.specs.Boards.{Board, board_of}
+use Rattle.air_history.specs.Boards.{Board}
 use Rattle.air_model.specs.Aired.{Air, air_of, fits}
 use Rattle.air_model.specs.AiredLaws.{CanAir}
 use Rattle.air_model.specs.Buckets.{Bucket, bucket_in, spelling}
-use Rattle.air_model.specs.Decks.{Deck, IsLegal, IsNextCommit, edition, script_history, values_in}
+use Rattle.air_model.specs.Decks.{Deck, IsLegal, IsNextCommit, edition, script_history}
 use Rattle.air_model.specs.Outputs.{script_tape}
 use Rattle.air_model.specs.Programs.{program}
 use Rattle.air_sender.specs.AiredBytes.{aired_bytes}
 use Rattle.air_sender.specs.BoardBuckets.{board_bytes, bucket_on, form_of}
-use Rattle.air_sender.proofs.AiredLemmas.{start_aired, start_heard}
+use Rattle.air_sender.proofs.AiredLemmas.{start_aired, start_event, start_heard}
 use Rattle.air_sender.proofs.RunLoops.{event_in, event_more, few_starts}
 use Rattle.air_sender.proofs.StartedBoards.{OwnCycleLaw}
 use Rattle.chunk_program.specs.Editions.{EditionDisks, edition_disks}
@@ -30,6 +30,8 @@ use Rattle.listeners.specs.Hearings.{AreTogether}
 use Rattle.listeners.specs.Listeners.{Listener, hears, listener_of}
 use Rattle.listeners.proofs.SleepLemmas.{keeps_air}
 use Rattle.listeners.proofs.TogetherLemmas.{together_heard}
+use Rattle.scripts.specs.Private.RunSteps.{AirsAfter, CanHearAfter}
+use Rattle.scripts.proofs.SourceLemmas.{board_after, source_cycle}
 use Rattle.scripts.proofs.TapePieceLemmas.{few_aired, script_begins}
 
 -- ---- the first events of a script
@@ -87,28 +89,52 @@ same_on f g a (suc n) same =
     ap (λ x. x ∷ map f (range_with_len (a + 1) n)) (same a (omega arith) (omega arith))
     ∙ ap (λ l. g a ∷ l) (same_on f g (a + 1) n (λ s from to. same s (omega arith) (omega arith)))
 
-module _ (deck : Deck) (G : List Event) (e : Event) (board : Board) (is : board ≡ board_of (values_in deck) (G ++ e ∷ [])) (own : OwnCycleLaw) (can : CanAir deck (G ++ e ∷ []))
-    (start : is_start e ≡ true) (form : Form) (p : EditionDisks) (formed : form ≡ form_of (air_of deck)) (in_force : p ≡ edition_disks deck (edition deck board.cycle)) where
+module _ (deck : Deck) (G : List Event) (source : Board) (from : AirsAfter deck G source) (own : OwnCycleLaw) (can : CanAir deck (G ++ Start ∷ [])) (form : Form) (p : EditionDisks)
+    (formed : form ≡ form_of (air_of deck)) (in_force : p ≡ edition_disks deck (edition deck source.cycle)) where
   abbrev on : ℕ → Bucket
-  on = bucket_on form p.edition (program p.disks) board
+  on = bucket_on form p.edition (program p.disks) source
+
+  abbrev board : Board
+  board = board_after deck G source from
+
+  forced : p ≡ edition_disks deck (edition deck board.cycle)
+  forced = in_force ∙ ap (λ c. edition_disks deck (edition deck c)) (source_cycle deck G source from)
+
+  slot_heard : (s : ℕ) → s < length (program p.disks) → IsTrue (fits (air_of deck) (on s)) × (bucket_in (spelling (on s)) ≡ Some (on s))
+  unfolding is_start
+  slot_heard s l = start_heard deck G Start board refl own can refl source from form p formed forced s l
 
   -- each bucket fits what the readers know
-  pub cycle_fits : (air : Air) → air ≡ air_of deck → AreFitting air form p.edition (program p.disks) board
-  cycle_fits air same s l = subst (λ air. IsTrue (fits air (on s))) (sym same) (start_heard deck G e board is own can start form p formed in_force s l).0
+  pub cycle_fits : (air : Air) → air ≡ air_of deck → AreFitting air form p.edition (program p.disks) source
+  cycle_fits air same s l = subst (λ air. IsTrue (fits air (on s))) (sym same) (slot_heard s l).0
 
   -- its records are aired next
-  pub cycle_records : aired_bytes deck G ++ board_bytes form p.edition (program p.disks) board ≡ aired_bytes deck (G ++ e ∷ [])
-  cycle_records = start_aired deck G e board is own can.made start form p (aired_bytes deck G) (aired_bytes deck G ++ board_bytes form p.edition (program p.disks) board) formed in_force refl refl
+  pub cycle_records : aired_bytes deck G ++ board_bytes form p.edition (program p.disks) source ≡ aired_bytes deck (G ++ Start ∷ [])
+  unfolding is_start
+  cycle_records = start_aired deck G Start board refl own can.made refl source from form p (aired_bytes deck G) (aired_bytes deck G ++ board_bytes form p.edition (program p.disks) source) formed forced refl refl
 
   -- and they are heard
-  members : map bucket_in (board_bytes form p.edition (program p.disks) board) ≡ map (λ s. Some (on s)) (range_with_len 0 (length (program p.disks)))
+  members : map bucket_in (board_bytes form p.edition (program p.disks) source) ≡ map (λ s. Some (on s)) (range_with_len 0 (length (program p.disks)))
   members =
       let slots = range_with_len 0 (length (program p.disks)) in
       ap (map bucket_in) (map-map spelling on slots) ∙ map-map bucket_in (λ s. spelling (on s)) slots
-      ∙ same_on (λ s. bucket_in (spelling (on s))) (λ s. Some (on s)) 0 (length (program p.disks)) (λ s from to. (start_heard deck G e board is own can start form p formed in_force s (omega arith)).1)
+      ∙ same_on (λ s. bucket_in (spelling (on s))) (λ s. Some (on s)) 0 (length (program p.disks)) (λ s from to. (slot_heard s (omega arith)).1)
 
   pub cycle_heard : (before now : List Listener) → AreTogether deck (aired_bytes deck G) before
-      → now ≡ map (hears (map (λ s. Some (on s)) (range_with_len 0 (length (program p.disks))))) before → AreTogether deck (aired_bytes deck (G ++ e ∷ [])) now
+      → now ≡ map (hears (map (λ s. Some (on s)) (range_with_len 0 (length (program p.disks))))) before → AreTogether deck (aired_bytes deck (G ++ Start ∷ [])) now
   cycle_heard before now are heard =
       subst (λ rs. AreTogether deck rs now) cycle_records
-      (together_heard deck (aired_bytes deck G) (board_bytes form p.edition (program p.disks) board) before now are (heard ∙ ap (λ os. map (hears os) before) (sym members)))
+      (together_heard deck (aired_bytes deck G) (board_bytes form p.edition (program p.disks) source) before now are (heard ∙ ap (λ os. map (hears os) before) (sym members)))
+
+-- ---- an event that starts a cycle
+
+-- What is asked of readers who hear it.
+pub can_hear_after : (deck : Deck) (G : List Event) (e : Event) (listeners : List Listener) → is_start e ≡ true → CanAir deck (G ++ e ∷ []) → length (aired_bytes deck (G ++ e ∷ [])) ≤ MOST_TAPE_RECORDS
+    → AreTogether deck (aired_bytes deck G) listeners → CanHearAfter deck G listeners
+can_hear_after deck G e listeners start can few heard =
+    let same = start_event e start in
+    record {
+      can = subst (λ e. CanAir deck (G ++ e ∷ [])) same can;
+      few = subst (λ e. length (aired_bytes deck (G ++ e ∷ [])) ≤ MOST_TAPE_RECORDS) same few;
+      heard = heard;
+    }

@@ -11,3 +11,5 @@ mod DrillExamples
 mod NumberExamples
 mod LongestExamples
 mod HeardLemmas
+pub mod BeamPieces
+mod SourceLemmas

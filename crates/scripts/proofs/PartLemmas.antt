@@ -1,30 +1,21 @@
--- The parts of a deck's script, and the events that they give; the values of a deck's items.
+-- The parts of a deck's script, and the events that they give.
 --
 -- A script that fits never runs out of an updater's updates: `part_fits`. `event_at` and the steps of a run cite these.
-use Rattle.std.proofs.Common.{◌≡◌, ℕ, ◌+◌, ◌<◌, ◌≤◌, Bool, cond, Option, Some, None, List, [], ◌∷◌, ◌++◌, length, map, take, get_or, set, false, ◌==◌, refl, sym, ◌∙◌, ap, subst, inl, inr, arith}
-use Rattle.std.specs.Prelude.{IfSome}
+use Rattle.std.proofs.Common.{◌≡◌, ℕ, ◌+◌, ◌<◌, ◌≤◌, Bool, cond, Option, Some, None, List, [], length, take, get_or, set, false, ◌==◌, refl, sym, ◌∙◌, ap, inl, inr, arith}
 use Rattle.std.specs.List.{slice_get}
 use Rattle.std.specs.Option.{option_map_or}
 use Rattle.std.proofs.lemmas.Bool.{cases_eq, cases_lt, eq-eqb, ne_eqb}
-use Rattle.std.proofs.lemmas.List.{get_or-set_other, get_or-set_same, get_or_default, get_or_past, length-set, map_more}
+use Rattle.std.proofs.lemmas.List.{get_or-set_other, get_or-set_same, get_or_default, get_or_past, length-set}
 use Rattle.std.proofs.lemmas.List.Sums.{count_by_more_no, count_by_more_yes, sum_by-take-le}
-use Rattle.std.proofs.lemmas.Option.{get_or_from_slice_get, slice_get-get_or}
+use Rattle.std.proofs.lemmas.Option.{get_or_from_slice_get}
 use Rattle.air_history.specs.declared.histories.Event.TheVariants.{Commit, Start}
 use Rattle.air_history.specs.UpdateLists.{UpdateLists}
-use Rattle.air_model.specs.Decks.{Deck, Item, ScriptFits, event_of, scripted_commits, updates_by}
+use Rattle.air_model.specs.Decks.{Deck, ScriptFits, event_of, scripted_commits, updates_by}
 use Rattle.scripts.specs.Private.RunSteps.{CountsScripted}
 
 -- The part is a commit of the updater.
 abbrev is_commit_by : ℕ → Option ℕ → Bool
 is_commit_by by part = option_map_or (λ who. who == by) part false
-
--- One more value.
-pub values_more : (items : List Item) (i v : ℕ) (before after : List ℕ) → i < length items → before ≡ map (λ item. item.value) (take i items)
-    → IfSome (slice_get items i) (λ item. v ≡ item.value) → after ≡ before ++ v ∷ [] → after ≡ map (λ item. item.value) (take (i + 1) items)
-values_more items i v before after below so_far is grew =
-    let none : Item = record { value = 0; rate = 0 } in
-    let own : v ≡ (get_or items i none).value = subst (λ (o : Option Item). IfSome o (λ item. v ≡ item.value)) (slice_get-get_or items i none below) is in
-    grew ∙ ap (λ l. l ++ v ∷ []) so_far ∙ ap (λ x. map (λ (item : Item). item.value) (take i items) ++ x ∷ []) own ∙ sym (map_more (λ (item : Item). item.value) items i none below)
 
 module _ (deck : Deck) (k by : ℕ) (here : slice_get deck.script k ≡ Some (Some by)) (within : k < length deck.script) where
   -- the part at the place

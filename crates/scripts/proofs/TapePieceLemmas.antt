@@ -50,7 +50,7 @@ tape_begins deck now k is =
     (tape_of begun.0, ap tape_of begun.1 ∙ tapes_join (aired_bytes deck now) begun.0)
 
 -- What holds of all holds of those in the middle.
-middle : (P : List ℕ → Type 0) (xs ys zs : List (List ℕ)) → All P ((xs ++ ys) ++ zs) → All P ys
+pub middle : (P : List ℕ → Type 0) (xs ys zs : List (List ℕ)) → All P ((xs ++ ys) ++ zs) → All P ys
 middle P xs ys zs all = λ k d below.
     let inside : length xs + k < length (xs ++ ys) = omega (arith, below, length-append xs ys) in
     subst P (get_or_append_left (xs ++ ys) zs d (length xs + k) inside ∙ get_or-append-add xs ys k d)
@@ -74,18 +74,28 @@ few_aired deck few =
     let count : length (aired_bytes deck (script_history deck)) ≤ length tape = subst (λ (t : TapeRead). length t.records ≤ length tape) back (few_records (length tape) 0 tape) in
     omega (arith, count, few)
 
+-- The tape of a piece is read as the piece, which has no record longer than a bucket.
+pub piece_read : (deck : Deck) (before now : List Event) (piece : List (List ℕ)) (tape : List ℕ) (k : ℕ) → IsDeck deck
+    → now ≡ take k (script_history deck) → aired_bytes deck now ≡ aired_bytes deck before ++ piece → tape ≡ tape_of piece
+    → ◌≡◌ {A = TapeRead} (tape_read tape) (record { records = piece; cut = None }) × All (IsShort deck) piece
+piece_read deck before now piece tape k made is aired same =
+    let begun = script_begins deck now k is in
+    let whole : aired_bytes deck (script_history deck) ≡ (aired_bytes deck before ++ piece) ++ begun.0 = begun.1 ∙ ap (λ l. l ++ begun.0) aired in
+    let short = middle (IsShort deck) (aired_bytes deck before) piece begun.0
+    (subst (All (IsShort deck)) whole (records_short deck (script_history deck))) in
+    let most = room_few deck.settings.version (length deck.items) made.most in
+    (ap tape_read same ∙ whole_read piece (length (tape_of piece)) 0 (λ j d below. let s = short j d below in omega (arith, s, most)) (omega arith), short)
+
 pub is_piece : (deck : Deck) (before now : List Event) (piece : List (List ℕ)) (tape : List ℕ) (k : ℕ) → length (script_tape deck) ≤ 1073741824 → IsDeck deck
     → now ≡ take k (script_history deck) → aired_bytes deck now ≡ aired_bytes deck before ++ piece → tape ≡ tape_of piece → IsPiece deck (aired_bytes deck before) piece tape
 is_piece deck before now piece tape k few made is aired same =
     let begun = script_begins deck now k is in
     let whole : aired_bytes deck (script_history deck) ≡ (aired_bytes deck before ++ piece) ++ begun.0 = begun.1 ∙ ap (λ l. l ++ begun.0) aired in
-    let short = middle (IsShort deck) (aired_bytes deck before) piece begun.0
-    (subst (All (IsShort deck)) whole (records_short deck (script_history deck))) in
+    let read = piece_read deck before now piece tape k made is aired same in
     let count = few_aired deck few in
-    let most = room_few deck.settings.version (length deck.items) made.most in
     record {
-      read = ap tape_read same ∙ whole_read piece (length (tape_of piece)) 0 (λ j d below. let s = short j d below in omega (arith, s, most)) (omega arith);
-      short = short;
+      read = read.0;
+      short = read.1;
       few = omega (arith, count, ap length whole, length-append (aired_bytes deck before ++ piece) begun.0, length-append (aired_bytes deck before) piece);
     }
 

@@ -1,7 +1,7 @@
-//! The parts of a deck's script: the event of each, and how many are each updater's; and the values of a deck's items.
+//! The script parts of a deck: the event of each, and how many are each updater's.
 
 ghost use Rattle.std.specs.Prelude.{◌≡◌, ◌<◌, ◌+◌, None, IfOk, get_or, length, take};
-ghost use Rattle.air_model.specs.Decks.{event_of, values_in};
+ghost use Rattle.air_model.specs.Decks.{event_of};
 ghost use Rattle.scripts.specs.Private.RunSteps.{CountsScripted};
 
 use air_base::NoMemory;
@@ -9,18 +9,7 @@ use air_history::Event;
 use item_catalog::Deck;
 use std::alloc::Global;
 
-/// The values of a deck's items.
-pub(crate) fn values_of(alloc: Global, deck: &Deck) -> Result<Vec<u64>, NoMemory>
-    ensures { IfOk result (λ values. values.items ≡ values_in deck.now) }
-{
-    let mut values = Vec::new(alloc);
-    for i in 0..deck.items() {
-        values.push(deck.value(i))?;
-    }
-    Ok(values)
-}
-
-/// The event of a part of the script, after the parts before it; `made` tells how many of these are each updater's.
+/// The event of a script part, after those before it; `made` tells how many of these are each updater's.
 pub(crate) fn event_at(alloc: Global, deck: &Deck, made: &[u32], k: u32) -> Result<Event, NoMemory>
     requires within { k < length deck.now.script }
     requires updaters { length made.now ≡ length deck.now.updates }
@@ -36,7 +25,7 @@ pub(crate) fn event_at(alloc: Global, deck: &Deck, made: &[u32], k: u32) -> Resu
     Ok(Event::Commit { by, seq, update })
 }
 
-/// Counts a part of the script as its updater's.
+/// Counts a script part as its updater's.
 pub(crate) fn count_part(deck: &Deck, made: &mut [u32], k: u32)
     requires within { k < length deck.now.script }
     requires updaters { length made.old ≡ length deck.now.updates }

@@ -9,31 +9,35 @@ ghost use Rattle.air_history.specs.Boards.{board_of};
 ghost use Rattle.air_history.specs.Histories.{starts};
 ghost use Rattle.air_model.specs.Buckets.{entry_len};
 ghost use Rattle.air_model.specs.AiredLaws.{CanAir};
-ghost use Rattle.air_model.specs.Decks.{event_of, script_history, values_in};
+ghost use Rattle.air_model.specs.Decks.{Deck, event_of, script_history, values_in};
 ghost use Rattle.air_model.specs.Outputs.{script_tape};
 ghost use Rattle.bucket_codec.specs.declared.offsets.TheConstants.{HEAD_BYTES};
 ghost use Rattle.air_sender.specs.TapeMasts.{told_by_tape};
 ghost use Rattle.air_sender.specs.AiredBytes.{aired_bytes};
 ghost use Rattle.listeners.specs.declared.ethers.TheConstants.{MOST_TAPE_RECORDS};
 ghost use Rattle.listeners.specs.Hearings.{AreTogether};
-ghost use Rattle.scripts.specs.PieceRuns.{IsPieceRun};
+ghost use Rattle.scripts.specs.PieceRuns.{FitsGroups, IsPieceRun};
 ghost use Rattle.scripts.specs.Private.RunSteps.{CountsScripted};
 
-use crate::parts::{count_part, event_at, values_of};
+use crate::cycle_sources::{air_from, groups_of, hear_from};
+use crate::parts::{count_part, event_at};
 use air_base::NoMemory;
 use air_history::Event;
-use air_sender::{TapeMast, air_cycle, below_law, bucket_room, own_cycle_law, own_form};
+use air_sender::{TapeMast, bucket_room};
 use chunk_program::Planned;
 use control_matrix::Board;
-use listeners::{Listener, all_hear_cycle};
+use group_matrix::GroupBoard;
+use listeners::Listener;
 use std::alloc::Global;
 
-/// The events so far, how many of them are each updater's, their board, and room for a bucket's bytes.
+/// The events so far, how many of them are each updater's, their board, the board by groups of the last cycle if the deck has groups, and
+/// room for a bucket's bytes.
 #[derive(Drop)]
 pub struct PieceRun {
     pub events: Vec<Event>,
     made: Vec<u32>,
     board: Board,
+    groups: Option<GroupBoard>,
     room: Vec<u8>,
 }
 
@@ -44,11 +48,12 @@ impl PieceRun {
         ensures empty { IfOk result (λ r. r.events.items ≡ []) }
     {
         let deck = planned.deck();
-        let values = values_of(alloc, deck)?;
+        let values = deck.values(alloc)?;
         Ok(PieceRun {
             events: Vec::new(alloc),
             made: vec![in alloc; 0; deck.updaters() as usize]?,
             board: Board::new(alloc, &values)?,
+            groups: groups_of(alloc, planned)?,
             room: vec![in alloc; 0; bucket_room(planned)]?,
         })
     }
@@ -60,6 +65,13 @@ impl PieceRun {
         ensures left { result ≡ false → length self.now.events.items < length planned.now.script }
     {
         self.events.len() == planned.deck().script_len() as usize
+    }
+
+    /// The number of cycles that were aired.
+    pub fn cycles(&self) -> u32
+        ensures { (planned : Deck) → IsPieceRun planned self.now → result ≡ starts self.now.events.items }
+    {
+        self.board.cycle()
     }
 
     /// Runs until `cycles` more cycles were aired, or to the end of the script: afterwards the mast has the buckets of these cycles alone.
@@ -147,6 +159,7 @@ impl PieceRun {
         ensures updaters { OnOk result (length self.new.made.items ≡ length planned.now.updates) }
         ensures made { OnOk result (CountsScripted planned.now (length self.old.events.items + 1) self.new.made.items) }
         ensures events { self.new.events ≡ self.old.events }
+        ensures groups { self.new.groups ≡ self.old.groups }
         ensures room { self.new.room ≡ self.old.room }
     {
         let deck = planned.deck();
@@ -157,7 +170,8 @@ impl PieceRun {
         Ok(event)
     }
 
-    /// Lets all readers hear the cycle that an event starts, from the board that the event leaves; a commit starts none.
+    /// Lets all readers hear the cycle that an event starts, from the board that the event leaves, or from its board by groups if the deck has
+    /// groups; a commit starts none.
     fn hear(
         &mut self,
         alloc: Global,
@@ -168,9 +182,11 @@ impl PieceRun {
         requires stepped { self.old.board ≡ board_of (values_in planned.now) (self.old.events.items ++ event.now ∷ []) }
         requires can { CanAir planned.now (self.old.events.items ++ event.now ∷ []) }
         requires few { length (aired_bytes planned.now (self.old.events.items ++ event.now ∷ [])) ≤ MOST_TAPE_RECORDS }
+        requires groups { FitsGroups planned.now self.old.groups }
         requires room { length self.old.room.items ≡ HEAD_BYTES + entry_len planned.now.settings.version * length planned.now.items }
         requires heard { AreTogether planned.now (aired_bytes planned.now self.old.events.items) listeners.items }
         ensures heard { IfOk result (λ ls. AreTogether planned.now (aired_bytes planned.now (self.old.events.items ++ event.now ∷ [])) ls.items) }
+        ensures groups { FitsGroups planned.now self.new.groups }
         ensures room { length self.new.room.items ≡ HEAD_BYTES + entry_len planned.now.settings.version * length planned.now.items }
         ensures events { self.new.events ≡ self.old.events }
         ensures made { self.new.made ≡ self.old.made }
@@ -179,22 +195,18 @@ impl PieceRun {
         if !event.is_start() {
             return Ok(listeners);
         }
-        own_cycle_law();
-        below_law();
         planned.shows_planned();
-        let program = planned.plans().in_force(self.board.cycle());
-        let listeners = all_hear_cycle(
-            alloc,
-            listeners,
-            program,
-            &self.board,
-            own_form(planned),
-            &mut self.room,
-        )?;
-        Ok(listeners)
+        match &mut self.groups {
+            None => hear_from(alloc, planned, &self.board, listeners, &mut self.room),
+            Some(groups) => {
+                groups.fill(&self.board);
+                hear_from(alloc, planned, &*groups, listeners, &mut self.room)
+            }
+        }
     }
 
-    /// Airs the cycle that an event starts, from the board that the event leaves, with the program in force in it; a commit starts none.
+    /// Airs the cycle that an event starts, from the board that the event leaves, or from its board by groups if the deck has groups; a commit
+    /// starts none.
     fn air(
         &mut self,
         planned: &Planned,
@@ -202,9 +214,11 @@ impl PieceRun {
         piece: &mut TapeMast,
     ) -> Result<(), NoMemory>
         requires stepped { self.old.board ≡ board_of (values_in planned.now) (self.old.events.items ++ event.now ∷ []) }
+        requires groups { FitsGroups planned.now self.old.groups }
         requires room { length self.old.room.items ≡ HEAD_BYTES + entry_len planned.now.settings.version * length planned.now.items }
         ensures aired { (before : List (List ℕ)) → aired_bytes planned.now self.old.events.items ≡ before ++ (told_by_tape piece.old).buckets →
             OnOk result (aired_bytes planned.now (self.old.events.items ++ event.now ∷ []) ≡ before ++ (told_by_tape piece.new).buckets) }
+        ensures groups { FitsGroups planned.now self.new.groups }
         ensures room { length self.new.room.items ≡ HEAD_BYTES + entry_len planned.now.settings.version * length planned.now.items }
         ensures events { self.new.events ≡ self.old.events }
         ensures made { self.new.made ≡ self.old.made }
@@ -213,19 +227,13 @@ impl PieceRun {
         if !event.is_start() {
             return Ok(());
         }
-        own_cycle_law();
-        below_law();
         planned.shows_planned();
-        let program = planned.plans().in_force(self.board.cycle());
-        match air_cycle(
-            program,
-            &self.board,
-            own_form(planned),
-            piece,
-            &mut self.room,
-        ) {
-            Ok(()) => Ok(()),
-            Err(_) => Err(NoMemory),
+        match &mut self.groups {
+            None => air_from(planned, &self.board, piece, &mut self.room),
+            Some(groups) => {
+                groups.fill(&self.board);
+                air_from(planned, &*groups, piece, &mut self.room)
+            }
         }
     }
 }

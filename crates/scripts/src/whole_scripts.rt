@@ -2,6 +2,7 @@
 
 ghost use Rattle.std.specs.Prelude.{◌≡◌, ◌≤◌, [], IfErr, IfOk, OnOk, length};
 ghost use Rattle.air_base.specs.declared.limits.TheConstants.{MOST_TAPE_BYTES};
+ghost use Rattle.air_index.specs.IndexedTapes.{beam_tape_of};
 ghost use Rattle.air_model.specs.Decks.{script_history};
 ghost use Rattle.air_model.specs.Outputs.{script_tape, true_sessions};
 ghost use Rattle.air_model.specs.Reports.{counts_lines, verdict_lines};
@@ -10,6 +11,7 @@ ghost use Rattle.scripts.specs.Sinks.{StopsAt};
 
 use crate::piece_runs::PieceRun;
 use crate::script_airing::ScriptAiring;
+use crate::script_beaming::ScriptBeaming;
 use crate::sinks::{Discard, PieceSink};
 use crate::sizes::piece_cycles;
 use air_base::NoMemory;
@@ -27,7 +29,7 @@ pub struct AiredScript {
 }
 
 /// Airs the script of a deck piece by piece: each reader hears its own ether of the tape, and the sink takes the piece. Of the tape one
-/// piece is kept, and what waits in the ethers. Told of the moment when nothing was taken.
+/// piece is kept, and what waits in the ethers. The last two clauses compare with the moment when nothing was taken.
 pub fn air_script<T: Threads + Sync, P, S: PieceSink<P>>(
     threads: &T,
     alloc: Global,
@@ -52,6 +54,26 @@ pub fn air_script<T: Threads + Sync, P, S: PieceSink<P>>(
     Ok(AiredScript { events, sessions })
 }
 
+/// Beams the script of a deck piece by piece: the sink takes each piece of the indexed tape. No more of the tape than a piece is kept. Told of the
+/// moment when nothing was taken.
+pub fn beam_script<P, S: PieceSink<P>>(
+    alloc: Global,
+    planned: &Planned,
+    sink: &S,
+    output: &mut P,
+) -> Result<(), S::Fault>
+    ensures taken { (first : P) → S.HasTaken sink.now [] first output.old → OnOk result (S.HasTaken sink.now (beam_tape_of planned.now) first output.new) }
+    ensures stopped { (first : P) → S.HasTaken sink.now [] first output.old →
+        IfErr result (StopsAt (S.Fault.from_gives (record {})) (λ bytes. S.HasTaken sink.now bytes first output.new) (λ bytes. S.HasFailed sink.now bytes first output.new) (beam_tape_of planned.now)) }
+{
+    let mut beaming = ScriptBeaming::new(alloc, planned, piece_cycles(planned))?;
+    while !beaming.is_done(planned) {
+        beaming.next_piece(alloc, planned)?;
+        sink.take(output, beaming.piece())?;
+    }
+    Ok(())
+}
+
 /// Airs the script of a deck without its tape: the readers hear what is aired, and nothing else is made of it.
 pub fn hear_script<T: Threads + Sync>(
     threads: &T,
@@ -69,7 +91,7 @@ pub fn hear_script<T: Threads + Sync>(
     air_script(threads, alloc, planned, &Discard, &mut ())
 }
 
-/// The same where nothing of what is aired is lost, heard again or late: the readers hear it from the board.
+/// The same if nothing of what is aired is lost, heard again or delayed: the readers hear it from the board.
 fn hear_perfect_script(alloc: Global, planned: &Planned) -> Result<AiredScript, NoMemory>
     requires few { length (script_tape planned.now) ≤ MOST_TAPE_BYTES }
     requires perfect { IsPerfect planned.now }

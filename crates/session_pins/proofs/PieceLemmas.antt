@@ -2,17 +2,18 @@
 use Rattle.std.proofs.Common.{◌≡◌, ◌≤◌, ◌<◌, ◌+◌, ◌++◌, ◌∙◌, ℕ, zero, suc, List, [], ◌∷◌, drop, length, take, map, None, Some, ap, sym, refl, arith}
 use Rattle.air_history.specs.declared.histories.Event.{Event}
 use Rattle.air_history.specs.declared.histories.Event.TheVariants.{Start}
-use Rattle.air_history.specs.Places.{last_place, greatest}
-use Rattle.air_history.specs.Histories.{cycle_at, front, is_start, starts, writer, writer_before, writes}
-use Rattle.air_history.specs.Columns.{column_entry}
-use Rattle.air_history.specs.Tables.{table, value_after, write_of}
+use Rattle.air_history.specs.Places.{last_place, greatest, greatest_of}
+use Rattle.air_history.specs.Histories.{cycle_at, front, is_start, reads, starts, writer, writer_before, writes}
+use Rattle.air_history.specs.Descents.{descends, descends_in}
+use Rattle.air_history.specs.Columns.{column_entry, group_entry}
+use Rattle.air_history.specs.Tables.{table, value_after, value_on_base, write_of}
 use Rattle.air_model.specs.Aired.{air_of, body_of, bucket_of, buckets_of}
 use Rattle.air_model.specs.Buckets.{capped_body, capped_entries, count_of, entries_of, entry_bytes, item_of, kind_of, spelling, value_of}
 use Rattle.air_model.specs.Decks.{Deck, event_of, script_history, values_in}
 use Rattle.air_model.specs.Disks.{cut, order, order_with}
 use Rattle.air_model.specs.Programs.{chunk, chunk_len, least_common_multiple, minor_cycle, num_chunks, num_minors, program}
-use Rattle.session_pins.specs.SmallBuckets.{item_bytes}
-use Rattle.session_pins.specs.SmallDecks.{first_updater_commit, scripted, update_to, updated}
+use Rattle.session_pins.specs.SmallBuckets.{two_entry_bytes, item_bytes}
+use Rattle.session_pins.specs.SmallDecks.{first_updater_commit, grouped_pair, scripted, update_to, updated}
 
 -- A beginning of two events that has more than one has both.
 both_of : (H : List Event) (a b : Event) (n : ℕ) → H ≡ take n (a ∷ b ∷ []) → n ≤ 2 → 1 < n → H ≡ a ∷ b ∷ []
@@ -92,3 +93,53 @@ two_cycles deck old H is_scripted is_old begun within most full =
     let none : starts old ≡ 0 = ap starts is_old ∙ none_started in
     two_of H (length H) (begun ∙ ap (λ d. take (length H) (script_history d)) is_scripted ∙ ap (take (length H)) starts_computed) (omega (arith, within, three))
     (omega (arith, most, none)) (λ less. let e : starts H ≡ starts old + 2 = full (omega (arith, less, three)) in omega (arith, e, none))
+
+-- ---- two cycles with groups, and without
+
+-- The script of the grouped pair, without its last start and with it.
+abbrev first_written : List Event
+first_written = Start ∷ first_updater_commit 0 (update_to 0 11) ∷ []
+
+abbrev both_started : List Event
+both_started = Start ∷ first_updater_commit 0 (update_to 0 11) ∷ Start ∷ []
+
+abbrev first_buckets : List (List ℕ)
+first_buckets = item_bytes 1 0 10 ∷ item_bytes 1 1 20 ∷ []
+
+record GroupedCycles : Type 0 where
+  history : (g : ℕ) → script_history (grouped_pair g) ≡ both_started
+  first_without : bytes_of (grouped_pair 0) first_written ≡ first_buckets
+  first_with : bytes_of (grouped_pair 2) first_written ≡ first_buckets
+  both_without : bytes_of (grouped_pair 0) both_started ≡ first_buckets ++ two_entry_bytes 2 0 11 1 ∷ two_entry_bytes 2 1 20 0 ∷ []
+  both_with : bytes_of (grouped_pair 2) both_started ≡ first_buckets ++ two_entry_bytes 2 0 11 1 ∷ two_entry_bytes 2 1 20 1 ∷ []
+
+grouped_computed : GroupedCycles
+unfolding script_history event_of last_place greatest greatest_of cycle_at front is_start reads starts writer writer_before writes descends descends_in column_entry group_entry table value_after value_on_base write_of body_of bucket_of capped_entries capped_body buckets_of count_of entries_of item_of kind_of spelling entry_bytes value_of cut order order_with chunk chunk_len least_common_multiple minor_cycle num_chunks num_minors program
+grouped_computed = record { history = λ g. refl; first_without = refl; first_with = refl; both_without = refl; both_with = refl }
+
+three_of : (H : List Event) (a b c : Event) (n : ℕ) → H ≡ take n (a ∷ b ∷ c ∷ []) → n ≤ 3 → 2 < n → H ≡ a ∷ b ∷ c ∷ []
+three_of H a b c zero is_part few some = absurd (omega arith)
+three_of H a b c (suc zero) is_part few some = absurd (omega arith)
+three_of H a b c (suc (suc zero)) is_part few some = absurd (omega arith)
+three_of H a b c (suc (suc (suc zero))) is_part few some = is_part
+three_of H a b c (suc (suc (suc (suc n)))) is_part few some = absurd (omega arith)
+
+second_of : (g : ℕ) (second : List (List ℕ)) (deck : Deck) (old H : List Event) (piece : List (List ℕ)) → bytes_of (grouped_pair g) first_written ≡ first_buckets
+    → bytes_of (grouped_pair g) both_started ≡ first_buckets ++ second → deck ≡ grouped_pair g → old ≡ first_written → H ≡ take (length H) (script_history deck)
+    → length H ≤ length deck.script → length old < length H → bytes_of deck H ≡ bytes_of deck old ++ piece → piece ≡ second
+second_of g second deck old H piece first both is_pair is_old begun within more aired =
+    let all : H ≡ both_started = three_of H Start (first_updater_commit 0 (update_to 0 11)) Start (length H)
+    (begun ∙ ap (λ d. take (length H) (script_history d)) is_pair ∙ ap (take (length H)) (grouped_computed.history g))
+    (omega (arith, within, ap (λ d. length d.script) is_pair)) (omega (arith, more, ap length is_old)) in
+    let old_is : bytes_of deck old ≡ first_buckets = ap (λ d. bytes_of d old) is_pair ∙ ap (bytes_of (grouped_pair g)) is_old ∙ first in
+    let new_is : bytes_of deck H ≡ first_buckets ++ second = ap (λ d. bytes_of d H) is_pair ∙ ap (bytes_of (grouped_pair g)) all ∙ both in
+    ap (drop 2) (sym (aired ∙ ap (λ l. l ++ piece) old_is)) ∙ ap (drop 2) new_is
+
+-- Without groups the second cycle has each item's own column, and with them the column of its group.
+pub second_without : (deck : Deck) (old H : List Event) (piece : List (List ℕ)) → deck ≡ grouped_pair 0 → old ≡ first_written → H ≡ take (length H) (script_history deck)
+    → length H ≤ length deck.script → length old < length H → bytes_of deck H ≡ bytes_of deck old ++ piece → piece ≡ two_entry_bytes 2 0 11 1 ∷ two_entry_bytes 2 1 20 0 ∷ []
+second_without deck old H piece = second_of 0 (two_entry_bytes 2 0 11 1 ∷ two_entry_bytes 2 1 20 0 ∷ []) deck old H piece grouped_computed.first_without grouped_computed.both_without
+
+pub second_with : (deck : Deck) (old H : List Event) (piece : List (List ℕ)) → deck ≡ grouped_pair 2 → old ≡ first_written → H ≡ take (length H) (script_history deck)
+    → length H ≤ length deck.script → length old < length H → bytes_of deck H ≡ bytes_of deck old ++ piece → piece ≡ two_entry_bytes 2 0 11 1 ∷ two_entry_bytes 2 1 20 1 ∷ []
+second_with deck old H piece = second_of 2 (two_entry_bytes 2 0 11 1 ∷ two_entry_bytes 2 1 20 1 ∷ []) deck old H piece grouped_computed.first_with grouped_computed.both_with

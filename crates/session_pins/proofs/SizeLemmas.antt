@@ -2,7 +2,7 @@
 use Rattle.std.proofs.Common.{◌≡◌, ◌≤◌, ◌<◌, ◌+◌, ◌*◌, ◌∙◌, ℕ, zero, suc, List, length, map, None, [], ◌∷◌, ap, refl, arith}
 use Rattle.std.proofs.lemmas.Nat.{row_fits}
 use Rattle.air_history.specs.Places.{greatest_of}
-use Rattle.air_model.specs.Decks.{Deck, Item, disks_in}
+use Rattle.air_model.specs.Decks.{Deck, Item}
 use Rattle.air_model.specs.Disks.{DiskSpec, cut, order, order_with}
 use Rattle.air_model.specs.Programs.{chunk, chunk_len, least_common_multiple, minor_cycle, num_chunks, num_minors, program}
 use Rattle.air_sender.specs.TapeSizes.{cycle_size}

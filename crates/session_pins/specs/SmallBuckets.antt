@@ -7,10 +7,14 @@ use Rattle.air_model.specs.Tapes.{TapeRead}
 abbrev pub bucket : ℕ → ℕ → Body → Bucket
 bucket cycle slot body = record { version = 1; edition = 0; cycle = cycle; slot = slot; body = body }
 
--- The bytes of an item's bucket in a cycle, in the slot of its number: its value, and the column 0 0.
+-- The bytes of an item's bucket in a cycle, in the slot of its number: its value, and the column of this entry and 0.
+abbrev pub two_entry_bytes : ℕ → ℕ → ℕ → ℕ → List ℕ
+two_entry_bytes cycle item value entry = 0x41 ∷ 0x44 ∷ 1 ∷ 1 ∷ 0 ∷ 0 ∷ 0 ∷ 2 ∷ 0 ∷ 0 ∷ 0 ∷ cycle ∷ 0 ∷ item ∷ 0 ∷ item ∷ 0 ∷ 0 ∷ 0 ∷ 0 ∷ 0 ∷ 0 ∷ 0 ∷ value
+    ∷ 0 ∷ 0 ∷ 0 ∷ entry ∷ 0 ∷ 0 ∷ 0 ∷ 0 ∷ []
+
+-- The same with the column 0 0.
 abbrev pub item_bytes : ℕ → ℕ → ℕ → List ℕ
-item_bytes cycle item value = 0x41 ∷ 0x44 ∷ 1 ∷ 1 ∷ 0 ∷ 0 ∷ 0 ∷ 2 ∷ 0 ∷ 0 ∷ 0 ∷ cycle ∷ 0 ∷ item ∷ 0 ∷ item ∷ 0 ∷ 0 ∷ 0 ∷ 0 ∷ 0 ∷ 0 ∷ 0 ∷ value
-    ∷ 0 ∷ 0 ∷ 0 ∷ 0 ∷ 0 ∷ 0 ∷ 0 ∷ 0 ∷ []
+item_bytes cycle item value = two_entry_bytes cycle item value 0
 
 -- What a tape of the buckets of cycle 1 holds.
 abbrev pub both_records : TapeRead

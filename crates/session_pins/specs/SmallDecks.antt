@@ -1,5 +1,5 @@
 -- Small decks, each with what its pins need: readers, updates, a script, an ether.
-use Rattle.std.specs.Prelude.{ℕ, false, List, [], ◌∷◌, Option, None}
+use Rattle.std.specs.Prelude.{ℕ, false, List, [], ◌∷◌, Option, None, Some}
 use Rattle.air_base.specs.declared.verdicts.Policy.TheVariants.{FMatrix}
 use Rattle.air_history.specs.declared.histories.Event.{Event}
 use Rattle.air_history.specs.declared.histories.Event.TheVariants.{Commit}
@@ -9,7 +9,7 @@ use Rattle.air_model.specs.Decks.{Deck}
 
 -- Nothing is lost, heard again or delayed.
 abbrev pub clear_air : Settings
-clear_air = record { policy = FMatrix; version = 1; cycles = 10; seed = 0; loss = 0; again = 0; late = 0; monitors = 0; hears = 1000000 }
+clear_air = record { policy = FMatrix; version = 1; group = 0; cycles = 10; seed = 0; loss = 0; again = 0; late = 0; monitors = 0; hears = 1000000 }
 
 -- Two items on one disk; one reader asks for both, once; the script starts one cycle.
 abbrev pub pair : Deck
@@ -62,3 +62,7 @@ first_updater_commit seq update = Commit 0 seq update
 -- One updater sets item 0 to 11 and then item 1 to 21.
 abbrev pub updated : List (Option ℕ) → Deck
 updated script = record pair { updates = (update_to 0 11 ∷ update_to 1 21 ∷ []) ∷ []; script = script }
+
+-- The pair with groups of g items, 0 where there are none. Item 0 is written between the two cycles.
+abbrev pub grouped_pair : ℕ → Deck
+grouped_pair g = record (updated (None ∷ Some 0 ∷ None ∷ [])) { settings = record clear_air { group = g } }

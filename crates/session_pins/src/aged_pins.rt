@@ -13,6 +13,7 @@ use bucket_codec::BucketView;
 use receiver_core::{Fed, Receiver};
 
 /// A receiver of a deck of version 1 hears no bucket of version 2.
+/// Promise: a refused or foreign bucket changes its count alone
 pub fn newer_version_fits(
     receiver: &mut Receiver,
     heard: &Result<BucketView<'_>, BucketFault>,
@@ -26,6 +27,7 @@ pub fn newer_version_fits(
 }
 
 /// A read that is too far from the held one and also clashes with it makes the attempt an aged one.
+/// Promise: the receiver steps as its session
 pub fn clash_asked_before_the_span(
     receiver: &mut Receiver,
     heard: &Result<BucketView<'_>, BucketFault>,
@@ -39,6 +41,7 @@ pub fn clash_asked_before_the_span(
 }
 
 /// An aged attempt leaves the copy of the held read, with which the next one begins.
+/// Promise: the receiver steps as its session
 pub fn copy_dropped_by_an_aged_attempt(
     receiver: &mut Receiver,
     heard: &Result<BucketView<'_>, BucketFault>,
@@ -58,6 +61,7 @@ pub fn copy_dropped_by_an_aged_attempt(
 }
 
 /// The read that makes an attempt an aged one is kept as a copy, even if this was the only try.
+/// Promise: the receiver steps as its session
 pub fn aged_read_not_offered(
     receiver: &mut Receiver,
     heard: &Result<BucketView<'_>, BucketFault>,

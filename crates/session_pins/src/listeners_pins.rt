@@ -20,6 +20,7 @@ use std::alloc::Global;
 use std::thread::Threads;
 
 /// A listener hears what was read of the bytes: item 0 is held, and kept as a copy.
+/// Promise: tune prints its session
 pub fn every_record_refused_to_all(
     listener: &mut Listener,
     alloc: Global,
@@ -33,6 +34,8 @@ pub fn every_record_refused_to_all(
 }
 
 /// The lines of a session are those of its own reader, and each has its reads (lines without their reads).
+/// Promise: script, drill and plan print their texts
+/// Promise: tune prints its session
 pub fn lines_of_the_first_reader(
     listener: Listener,
     alloc: Global,
@@ -49,6 +52,9 @@ pub fn lines_of_the_first_reader(
 
 /// Each reader hears through its own ether, by its own generator (readers share one generator), and in the order of the tape (pairs heard in the
 /// other order). Out of memory, no session is answered (out of memory told as heard).
+/// Promise: readers side by side are as one after another
+/// Promise: the ether is its definition
+/// Promise: script, drill and plan print their texts
 pub fn lossy_ethers_heard_together<T: Threads + Sync>(
     threads: &T,
     alloc: Global,
@@ -65,6 +71,8 @@ pub fn lossy_ethers_heard_together<T: Threads + Sync>(
 }
 
 /// Readers who hear a piece side by side hear all of it in its order, or one of them is out of memory (out of memory in a piece told as done).
+/// Promise: readers side by side are as one after another
+/// Promise: script, drill and plan print their texts
 pub fn piece_heard_in_two_orders<T: Threads + Sync>(
     readers: &mut Together,
     threads: &T,
@@ -79,6 +87,7 @@ pub fn piece_heard_in_two_orders<T: Threads + Sync>(
 }
 
 /// A bucket that no reader wants is counted by each of them, and makes its cycle the newest that they heard.
+/// Promise: the receiver steps as its session
 pub fn unwanted_bucket_uncounted<T: Threads + Sync>(
     readers: &mut Together,
     threads: &T,

@@ -21,6 +21,7 @@ use receiver_core::{Fed, Receiver};
 use std::alloc::Global;
 
 /// What is no bucket is refused with its own fault, and changes only that count (refused bucket moves now).
+/// Promise: a refused or foreign bucket changes its count alone
 pub fn every_fault_told_as_shape(
     receiver: &mut Receiver,
     heard: &Result<BucketView<'_>, BucketFault>,
@@ -34,6 +35,7 @@ pub fn every_fault_told_as_shape(
 }
 
 /// If the first item of a query is held, the second is wanted.
+/// Promise: the receiver steps as its session
 pub fn held_item_wanted_again(receiver: &Receiver) -> Option<u16>
     requires { receiver.now ≡ asker_in (air_by FMatrix) (holding 1) }
     ensures { result ≡ Some 1 }
@@ -42,6 +44,8 @@ pub fn held_item_wanted_again(receiver: &Receiver) -> Option<u16>
 }
 
 /// Under R-Matrix a read of an older cycle than the held one comes too late, even by one cycle (one cycle older not late).
+/// Promise: the receiver steps as its session
+/// Promise: accepted reads share a cycle
 pub fn late_read_opened(receiver: &mut Receiver, heard: &Result<BucketView<'_>, BucketFault>) -> Fed
     requires receiver { receiver.old ≡ asker_in (air_by RMatrix) (holding 3) }
     requires heard { heard.now ≡ Ok (bucket 2 1 (Vector 1 20 (0 ∷ 0 ∷ []))) }
@@ -52,6 +56,7 @@ pub fn late_read_opened(receiver: &mut Receiver, heard: &Result<BucketView<'_>, 
 }
 
 /// A bucket of another edition is foreign.
+/// Promise: a refused or foreign bucket changes its count alone
 pub fn loose_decoder_other_edition_opened(
     receiver: &mut Receiver,
     heard: &Result<BucketView<'_>, BucketFault>,
@@ -65,6 +70,8 @@ pub fn loose_decoder_other_edition_opened(
 }
 
 /// A read that clashes with a held one ends the attempt, which was the only try (one try too many), and is kept as a copy.
+/// Promise: the cache keeps the greatest
+/// Promise: the receiver steps as its session
 pub fn offer_left_out_after_an_abort(
     receiver: &mut Receiver,
     heard: &Result<BucketView<'_>, BucketFault>,
@@ -85,6 +92,7 @@ pub fn offer_left_out_after_an_abort(
 }
 
 /// Each bucket that is slept through is counted as dozed, and the newest of their cycles is the newest heard one (time stops while dozing).
+/// Promise: the receiver steps as its session
 pub fn dozed_buckets_uncounted(receiver: &mut Receiver)
     requires { receiver.old ≡ asker_in (air_by FMatrix) (holding 1) }
     ensures { receiver.new.state ≡ record (holding 1) { now = 4; counts = counts 1 3 0 0 0 0 } }
@@ -93,6 +101,7 @@ pub fn dozed_buckets_uncounted(receiver: &mut Receiver)
 }
 
 /// Where an older cycle is slept through, the newest heard one stays.
+/// Promise: the receiver steps as its session
 pub fn time_set_back_by_dozing(receiver: &mut Receiver)
     requires { receiver.old ≡ asker_in (air_by FMatrix) (holding 5) }
     ensures { receiver.new.state ≡ record (holding 5) { counts = counts 1 2 0 0 0 0 } }
@@ -101,6 +110,7 @@ pub fn time_set_back_by_dozing(receiver: &mut Receiver)
 }
 
 /// An item's PIX number is its rate times the number of its disk's chunks: for item 0 twice two, and for item 1 three times one.
+/// Promise: the cache keeps the greatest
 pub fn cache_by_rate(alloc: Global, deck: &Deck, plans: &Plans) -> Result<Receiver, NoMemory>
     requires deck { deck.now ≡ tiered }
     requires planned { plans.now ≡ plans_in deck.now }
@@ -111,6 +121,7 @@ pub fn cache_by_rate(alloc: Global, deck: &Deck, plans: &Plans) -> Result<Receiv
 }
 
 /// When the program changes, the copies are put in the new order before the read is offered: item 1 is worth more from then on.
+/// Promise: the cache keeps the greatest
 pub fn old_order_kept(receiver: &mut Receiver, heard: &Result<BucketView<'_>, BucketFault>) -> Fed
     requires receiver { receiver.old ≡ asking 1 (keeping_one 1 (heard_read 0 1 10 (0 ∷ 0 ∷ []))) }
     requires heard { heard.now ≡ Ok changed_bucket }
@@ -121,6 +132,7 @@ pub fn old_order_kept(receiver: &mut Receiver, heard: &Result<BucketView<'_>, Bu
 }
 
 /// The read of an older bucket is also offered by the order of the newest heard cycle, in which the kept copy is worth more.
+/// Promise: the cache keeps the greatest
 pub fn order_by_own_cycle(
     receiver: &mut Receiver,
     heard: &Result<BucketView<'_>, BucketFault>,
@@ -134,6 +146,7 @@ pub fn order_by_own_cycle(
 }
 
 /// A bucket is judged by the edition of its own cycle, even if the program has changed since (judged by the newest edition).
+/// Promise: a refused or foreign bucket changes its count alone
 pub fn old_bucket_foreign(receiver: &Receiver, heard: &BucketView<'_>) -> bool
     requires receiver { receiver.now ≡ asking 0 (keeping_one 2 (heard_read 1 2 20 (0 ∷ 0 ∷ []))) }
     requires heard { heard.now ≡ bucket 1 0 (Column 0 10 (0 ∷ 0 ∷ [])) }
@@ -143,6 +156,7 @@ pub fn old_bucket_foreign(receiver: &Receiver, heard: &BucketView<'_>) -> bool
 }
 
 /// A bucket in the newest edition fits in no cycle before it.
+/// Promise: a refused or foreign bucket changes its count alone
 pub fn newest_edition_in_any_cycle(receiver: &Receiver, heard: &BucketView<'_>) -> bool
     requires receiver { receiver.now ≡ asking 0 (keeping_one 2 (heard_read 1 2 20 (0 ∷ 0 ∷ []))) }
     requires heard { heard.now ≡ record changed_bucket { cycle = 1 } }

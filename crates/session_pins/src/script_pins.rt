@@ -18,6 +18,7 @@ use std::thread::Threads;
 
 /// A script is aired to its end, here in two pieces, of which the second has one commit (last part left out), and its history is answered (another
 /// history at the end). Each bucket is heard once (piece heard twice).
+/// Promise: script, drill and plan print their texts
 pub fn history_left_out_of_the_report<T: Threads + Sync>(
     threads: &T,
     alloc: Global,
@@ -33,6 +34,7 @@ pub fn history_left_out_of_the_report<T: Threads + Sync>(
 }
 
 /// The last piece is heard like each other one: here it is the only one.
+/// Promise: script, drill and plan print their texts
 pub fn last_piece_not_heard<T: Threads + Sync>(
     threads: &T,
     alloc: Global,
@@ -46,6 +48,7 @@ pub fn last_piece_not_heard<T: Threads + Sync>(
 }
 
 /// Each piece is given to the sink: here the only one, with both items of one cycle.
+/// Promise: script, drill and plan print their texts
 pub fn last_piece_not_taken<T: Threads + Sync, P, S: PieceSink<P>>(
     threads: &T,
     alloc: Global,
@@ -62,6 +65,7 @@ pub fn last_piece_not_taken<T: Threads + Sync, P, S: PieceSink<P>>(
 }
 
 /// The sessions over the tape of a history have their verdicts, and a line of counts for each reader.
+/// Promise: script, drill and plan print their texts
 pub fn sessions_without_their_counts<T: Threads + Sync>(
     threads: &T,
     alloc: Global,

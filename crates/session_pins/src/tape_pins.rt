@@ -17,6 +17,7 @@ use std::alloc::Global;
 use std::thread::Threads;
 
 /// A whole tape is heard, or its file can't be read, or the call is out of memory: it is not cut.
+/// Promise: every answer is a named one
 pub fn always_a_cut_tape<T: Threads + Sync, S: Shelf>(
     threads: &T,
     alloc: Global,
@@ -33,6 +34,7 @@ pub fn always_a_cut_tape<T: Threads + Sync, S: Shelf>(
 
 /// The record that a piece's end divides is put together again (divided record lost), and each record is heard (records of a piece lost, last piece
 /// left out), and heard once (records heard again). A tape may be as long as its limit (tape at its limit refused).
+/// Promise: tune prints its session
 pub fn carried_rest_forgotten<T: Threads + Sync, S: Shelf>(
     threads: &T,
     alloc: Global,
@@ -54,6 +56,7 @@ pub fn carried_rest_forgotten<T: Threads + Sync, S: Shelf>(
 }
 
 /// A tape that ends inside a record is cut where that record begins, at the tape's own byte.
+/// Promise: tune prints its session
 pub fn cut_at_the_byte_of_its_piece<T: Threads + Sync, S: Shelf>(
     threads: &T,
     alloc: Global,

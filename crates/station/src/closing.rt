@@ -36,7 +36,7 @@ fn finish(
 
 impl Station {
     /// The history, for all passes. It begins with what each pass has seen; what follows has no commit of that updater, and for the conductor no
-    /// start. So each call made through a pass is in it once. `UpdaterPass::by` is the test for `all`.
+    /// start. So each call made through a pass is in it once. The passes may come in any order. `UpdaterPass::by` is the test for `all`.
     pub fn close(self, passes: Vec<UpdaterPass>, conductor: ConductorPass) -> History
         requires own { (conductor.station ≡ self) × All (λ (p : PassState). p.station ≡ self) passes.items }
         requires all { (by : ℕ) → by < conductor.updaters → Contains (numbers_of passes.items) by }

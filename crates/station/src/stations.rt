@@ -1,6 +1,5 @@
 //! A station, and how it is made with its passes.
 ghost use Rattle.std.specs.Prelude.{◌≡◌, ℕ, ◌<◌, ◌≤◌, ◌^◌, [], length, slice_get, vec_capacity, IfOk, Some};
-ghost use Rattle.air_model.specs.Decks.{values_in};
 ghost use Rattle.station.specs.PassStates.{new_pass};
 ghost use Rattle.station.specs.PassFields.{pass_in, IsUpdater};
 
@@ -30,17 +29,6 @@ impl Model for Station {
     ghost view = { λ s. s.turnstile };
 }
 
-/// The first value of each item.
-fn first_values(alloc: Global, deck: &Deck) -> Result<Vec<u64>, NoMemory>
-    ensures { IfOk result (λ values. values.items ≡ values_in deck.now) }
-{
-    let mut values = Vec::new(alloc);
-    for item in 0..deck.items() {
-        values.push(deck.value(item))?;
-    }
-    Ok(values)
-}
-
 /// Makes each pass that of the updater with its number.
 fn hand_out(all: Vec<Pass<StationCore>>, passes: &mut Vec<UpdaterPass>)
     requires room { (passes.old.items ≡ []) × (length all.items ≤ vec_capacity passes.old) }
@@ -67,7 +55,7 @@ impl Station {
         ensures conductor { IfOk result (λ made. made.2 ≡ new_pass made.0 deck.now (length deck.now.updates)) }
     {
         let updaters = deck.updaters();
-        let values = first_values(alloc, deck)?;
+        let values = deck.values(alloc)?;
         let core = Core::new(alloc, &values, updaters)?;
         let mut passes = Vec::with_capacity(alloc, updaters as usize)?;
         let (turnstile, mut all) = Turnstile::new(alloc, StationCore { core }, updaters + 1)?;

@@ -12,6 +12,7 @@ use bucket_codec::{
 };
 
 /// A tape that is cut gives its fault, and not the bytes that are left of the record.
+/// Promise: buckets and tapes are their grammar
 pub fn cut_record_given<'a>(reader: &mut TapeReader<'a>) -> Result<Option<&'a [u8]>, TapeFault>
     requires { reader.old ≡ cut_at_byte 7 }
     ensures { result ≡ Err (TapeFault.Cut 7) }
@@ -20,6 +21,7 @@ pub fn cut_record_given<'a>(reader: &mut TapeReader<'a>) -> Result<Option<&'a [u
 }
 
 /// A reader that met the cut stays there, so it gives the same answer again.
+/// Promise: buckets and tapes are their grammar
 pub fn reader_goes_on_after_a_cut<'a>(
     reader: &mut TapeReader<'a>,
 ) -> Result<Option<&'a [u8]>, TapeFault>
@@ -30,6 +32,7 @@ pub fn reader_goes_on_after_a_cut<'a>(
 }
 
 /// The length of a record comes before its bytes.
+/// Promise: buckets and tapes are their grammar
 #[tactic(auto, unfolding(air_model::specs::Tapes::record_bytes))]
 pub fn length_always_four(bytes: &[u8], out: &mut [u8]) -> usize
     requires bytes { bytes.now ≡ 7 ∷ [] }
@@ -41,6 +44,7 @@ pub fn length_always_four(bytes: &[u8], out: &mut [u8]) -> usize
 }
 
 /// The byte after a bucket stays as it was.
+/// Promise: buckets and tapes are their grammar
 #[tactic(auto, using(crate::proofs::BucketLemmas::slot_has_room))]
 pub fn encode_touches_bytes_behind(bucket: &Bucket<'_>, out: &mut [u8]) -> usize
     requires bucket { bucket_to_air bucket.now ≡ idle_bucket }
@@ -51,6 +55,7 @@ pub fn encode_touches_bytes_behind(bucket: &Bucket<'_>, out: &mut [u8]) -> usize
 }
 
 /// Three entries take twelve bytes after the head.
+/// Promise: buckets and tapes are their grammar
 #[tactic(auto, using(crate::proofs::BucketLemmas::varied_size))]
 pub fn size_without_the_entries(bucket: &Bucket<'_>) -> usize
     requires { bucket_to_air bucket.now ≡ varied }
@@ -60,6 +65,7 @@ pub fn size_without_the_entries(bucket: &Bucket<'_>) -> usize
 }
 
 /// If both version and kind are wrong, the version is reported.
+/// Promise: buckets and tapes are their grammar
 #[tactic(auto, unfolding(air_model::specs::Buckets::reading))]
 pub fn faults_in_another_order<'a>(bytes: &'a [u8]) -> Result<BucketView<'a>, BucketFault>
     requires { bytes.now ≡ but (but idle_bytes 2 3) 3 3 }
@@ -69,6 +75,7 @@ pub fn faults_in_another_order<'a>(bytes: &'a [u8]) -> Result<BucketView<'a>, Bu
 }
 
 /// A byte after the entries is a fault of the length.
+/// Promise: buckets and tapes are their grammar
 #[tactic(auto, unfolding(air_model::specs::Buckets::reading, air_model::specs::Buckets::entry_count))]
 pub fn loose_decoder_bytes_after_the_entries<'a>(
     bytes: &'a [u8],
@@ -80,6 +87,7 @@ pub fn loose_decoder_bytes_after_the_entries<'a>(
 }
 
 /// An idle slot has no entries, for any number of items.
+/// Promise: buckets and tapes are their grammar
 #[tactic(auto, unfolding(air_model::specs::Buckets::reading, air_model::specs::Buckets::entry_count))]
 pub fn loose_decoder_idle_with_entries<'a>(bytes: &'a [u8]) -> Result<BucketView<'a>, BucketFault>
     requires { bytes.now ≡ idle_bytes ++ 0 ∷ 0 ∷ 0 ∷ 0 ∷ 0 ∷ 0 ∷ 0 ∷ 0 ∷ [] }
@@ -89,6 +97,7 @@ pub fn loose_decoder_idle_with_entries<'a>(bytes: &'a [u8]) -> Result<BucketView
 }
 
 /// An entry of the bucket's own cycle is out of range.
+/// Promise: buckets and tapes are their grammar
 pub fn loose_decoder_entry_equal_to_the_cycle<'a>(
     bytes: &'a [u8],
 ) -> Result<BucketView<'a>, BucketFault>
@@ -99,6 +108,7 @@ pub fn loose_decoder_entry_equal_to_the_cycle<'a>(
 }
 
 /// The slot is read from its own place.
+/// Promise: buckets and tapes are their grammar
 pub fn slot_read_from_the_item(view: &BucketView<'_>) -> u16
     requires { view.now ≡ varied }
     ensures { result ≡ 5 }
@@ -110,6 +120,7 @@ pub fn slot_read_from_the_item(view: &BucketView<'_>) -> u16
 
 /// In cycle 300 the age 254 gives the entry 46, and an entry 45 is written as 0. A cap one cycle late is no mistake: it gives
 /// the same bytes, since an age of 255 is the cap.
+/// Promise: buckets and tapes are their grammar
 #[tactic(auto, using(crate::proofs::BucketLemmas::aged_has_room))]
 pub fn cap_one_cycle_early(bucket: &Bucket<'_>, out: &mut [u8]) -> usize
     requires bucket { bucket_to_air bucket.now ≡ aged (46 ∷ 45 ∷ []) }
@@ -120,6 +131,7 @@ pub fn cap_one_cycle_early(bucket: &Bucket<'_>, out: &mut [u8]) -> usize
 }
 
 /// Two entries take two bytes after the head.
+/// Promise: buckets and tapes are their grammar
 #[tactic(auto, using(crate::proofs::BucketLemmas::aged_size))]
 pub fn ages_measured_as_entries(bucket: &Bucket<'_>) -> usize
     requires { bucket_to_air bucket.now ≡ aged (46 ∷ 45 ∷ []) }
@@ -129,6 +141,7 @@ pub fn ages_measured_as_entries(bucket: &Bucket<'_>) -> usize
 }
 
 /// No entry is of the bucket's own cycle, so there is no age 0.
+/// Promise: buckets and tapes are their grammar
 pub fn age_0_let_through<'a>(bytes: &'a [u8]) -> Result<BucketView<'a>, BucketFault>
     requires { bytes.now ≡ bytes_with_ages 0 3 (0 ∷ 255 ∷ []) }
     ensures { result ≡ Err BucketFault.Shape }
@@ -137,6 +150,7 @@ pub fn age_0_let_through<'a>(bytes: &'a [u8]) -> Result<BucketView<'a>, BucketFa
 }
 
 /// Only 255 stands for the entry 0, so no age equals the cycle.
+/// Promise: buckets and tapes are their grammar
 pub fn age_equal_to_the_cycle<'a>(bytes: &'a [u8]) -> Result<BucketView<'a>, BucketFault>
     requires { bytes.now ≡ bytes_with_ages 0 3 (2 ∷ 3 ∷ []) }
     ensures { result ≡ Err BucketFault.Shape }
@@ -145,6 +159,7 @@ pub fn age_equal_to_the_cycle<'a>(bytes: &'a [u8]) -> Result<BucketView<'a>, Buc
 }
 
 /// Four bytes for each of two entries are too many.
+/// Promise: buckets and tapes are their grammar
 #[tactic(auto, unfolding(air_model::specs::Buckets::reading, air_model::specs::Buckets::entry_count))]
 pub fn ages_of_four_bytes<'a>(bytes: &'a [u8]) -> Result<BucketView<'a>, BucketFault>
     requires { bytes.now ≡ bytes_with_ages 0 3 (0 ∷ 0 ∷ 0 ∷ 1 ∷ 0 ∷ 0 ∷ 0 ∷ 1 ∷ []) }
@@ -154,6 +169,7 @@ pub fn ages_of_four_bytes<'a>(bytes: &'a [u8]) -> Result<BucketView<'a>, BucketF
 }
 
 /// The age 254 of cycle 300 is read as the entry 46.
+/// Promise: buckets and tapes are their grammar
 #[tactic(auto, unfolding(air_model::specs::Buckets::kind_of, air_model::specs::Buckets::count_of, air_model::specs::Buckets::entries_of))]
 pub fn age_read_as_the_entry(view: &BucketView<'_>) -> u32
     requires { view.now ≡ aged (46 ∷ 0 ∷ []) }

@@ -14,6 +14,7 @@ use rand_pcg::Lcg64Xsh32;
 use std::alloc::Global;
 
 /// The first item of seed 1 has a rate of 65: the word gives 64, counted from 0.
+/// Promise: the drill's deck is its definition
 #[tactic(auto, unfolding(air_model::specs::Draws::draw))]
 pub fn rate_from_nought(words: &mut Lcg64Xsh32) -> (u64, u32)
     requires { words.old ≡ generator 1 1 }
@@ -25,6 +26,7 @@ pub fn rate_from_nought(words: &mut Lcg64Xsh32) -> (u64, u32)
 
 /// The first update of seed 3, among five items: the bases of its writes are the items that it reads, in turn. It also refuses that two reads
 /// are never drawn.
+/// Promise: the drill's deck is its definition
 pub fn base_among_the_written(
     alloc: Global,
     words: Lcg64Xsh32,
@@ -36,6 +38,7 @@ pub fn base_among_the_written(
 }
 
 /// The first query of seed 2, among eighteen items: each is the seventh after the one before, and the first item comes after the last.
+/// Promise: the drill's deck is its definition
 #[tactic(auto, unfolding(air_model::specs::Draws::draw, air_model::specs::Drills::draw_query))]
 pub fn queries_six_apart(
     alloc: Global,
@@ -47,9 +50,10 @@ pub fn queries_six_apart(
     draw_query(alloc, words, 18)
 }
 
-/// Of a hundred buckets five are lost, three heard again and ten late.
+/// Of a hundred buckets five are lost, three heard again and ten delayed.
+/// Promise: the drill's deck is its definition
 pub fn late_for_again() -> Settings
-    ensures { result ≡ record { policy = FMatrix; version = 1; cycles = 10; seed = 7; loss = 5; again = 3; late = 10; monitors = 0; hears = 1000000 } }
+    ensures { result ≡ record { policy = FMatrix; version = 1; group = 0; cycles = 10; seed = 7; loss = 5; again = 3; late = 10; monitors = 0; hears = 1000000 } }
 {
     drill_settings(7)
 }

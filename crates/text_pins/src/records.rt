@@ -9,6 +9,7 @@ use csv::ByteRecord;
 use item_catalog::{Records, one, two};
 
 /// If a record has three fields after its tag, no two are taken from it.
+/// Promise: texts are exact
 pub fn longer_record_taken(fields: &ByteRecord) -> Option<(&[u8], &[u8])>
     requires { fields_of fields.now ≡ codes "t" ∷ codes "a" ∷ codes "b" ∷ codes "c" ∷ [] }
     ensures { result ≡ None }
@@ -17,6 +18,7 @@ pub fn longer_record_taken(fields: &ByteRecord) -> Option<(&[u8], &[u8])>
 }
 
 /// The one field is the one after the tag.
+/// Promise: texts are exact
 pub fn tag_taken_for_the_field(fields: &ByteRecord) -> Option<&[u8]>
     requires { fields_of fields.now ≡ codes "t" ∷ codes "a" ∷ [] }
     ensures some { IsSome result }
@@ -26,6 +28,7 @@ pub fn tag_taken_for_the_field(fields: &ByteRecord) -> Option<&[u8]>
 }
 
 /// A record of one field is a record, and the end comes after it.
+/// Promise: texts are exact
 pub fn record_of_one_field_taken_for_the_end(
     records: &mut Records<'_>,
     fields: &mut ByteRecord,
@@ -39,6 +42,7 @@ pub fn record_of_one_field_taken_for_the_end(
 }
 
 /// After out of memory no further record is given, and there are no fields.
+/// Promise: a refusal leaves its objects
 pub fn record_given_after_no_memory(
     records: &mut Records<'_>,
     fields: &mut ByteRecord,
@@ -51,6 +55,7 @@ pub fn record_given_after_no_memory(
 }
 
 /// After the end no record is given, and the end is reached for each later call.
+/// Promise: a refusal leaves its objects
 pub fn record_given_after_the_end(
     records: &mut Records<'_>,
     fields: &mut ByteRecord,

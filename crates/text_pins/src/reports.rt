@@ -11,6 +11,7 @@ use csv::Writer;
 use std::alloc::Global;
 
 /// Rows may have lengths of their own.
+/// Promise: script, drill and plan print their texts
 pub fn rows_of_one_length(text: Vec<u8>) -> Writer<Vec<u8>>
     ensures { writer_setup result ≡ with_flexible default_writer true }
 {
@@ -18,6 +19,7 @@ pub fn rows_of_one_length(text: Vec<u8>) -> Writer<Vec<u8>>
 }
 
 /// A commit's row has its updater before its number. It also refuses that a start has no row.
+/// Promise: script, drill and plan print their texts
 #[tactic(auto, using(crate::proofs::ReportLemmas::text_of_two_events))]
 pub fn by_and_seq_swapped(alloc: Global, report: &Report, out: &mut Vec<u8>) -> Result<(), NoMemory>
     requires report { report.now ≡ of_two_events }
@@ -29,6 +31,7 @@ pub fn by_and_seq_swapped(alloc: Global, report: &Report, out: &mut Vec<u8>) -> 
 
 /// A verdict's row has its reader, query and attempt, and then its reads. It also refuses that a read has its cycle for its
 /// item, and that two spaces are between reads.
+/// Promise: script, drill and plan print their texts
 #[tactic(auto, using(crate::proofs::ReportLemmas::text_of_an_abort))]
 pub fn attempt_told_as_query(
     alloc: Global,
@@ -43,6 +46,7 @@ pub fn attempt_told_as_query(
 }
 
 /// The row of an aged attempt has a tag of its own, and ends with the refused read: it names no clash.
+/// Promise: script, drill and plan print their texts
 #[tactic(auto, using(crate::proofs::ReportLemmas::text_of_an_aged_attempt))]
 pub fn aged_told_as_an_abort(
     alloc: Global,
@@ -57,6 +61,7 @@ pub fn aged_told_as_an_abort(
 }
 
 /// Counts are in this order: opened, dozed, late, refused, foreign and copied.
+/// Promise: script, drill and plan print their texts
 #[tactic(auto, using(crate::proofs::ReportLemmas::text_of_counts))]
 pub fn refused_told_as_late(
     alloc: Global,
@@ -72,6 +77,7 @@ pub fn refused_told_as_late(
 
 /// What was seen during the run is written as a glance, and what was seen at its end as a look. It refuses that the report's
 /// writer or the row's writer exchanges them.
+/// Promise: script, drill and plan print their texts
 #[tactic(auto, using(crate::proofs::ReportLemmas::text_of_a_glance_and_a_look))]
 pub fn glances_written_as_looks(
     alloc: Global,
@@ -86,6 +92,7 @@ pub fn glances_written_as_looks(
 }
 
 /// A report is added after the text that is there.
+/// Promise: script, drill and plan print their texts
 #[tactic(auto, using(crate::proofs::ReportLemmas::text_of_a_start))]
 pub fn report_in_place_of_the_text(
     alloc: Global,
@@ -100,6 +107,7 @@ pub fn report_in_place_of_the_text(
 }
 
 /// The line of a cut tape has the number 6, and names the byte.
+/// Promise: what each status leaves outside
 #[tactic(auto, unfolding(air_model::specs::Rows::rows_text, air_base::specs::Numbers::number_text, csv::specs::Writing::fields_text, csv::specs::Writing::is_blank))]
 pub fn cut_told_as_too_large(alloc: Global, status: &Status) -> Result<Vec<u8>, NoMemory>
     requires { status.now ≡ Status.TapeCut 36 }
@@ -109,6 +117,7 @@ pub fn cut_told_as_too_large(alloc: Global, status: &Status) -> Result<Vec<u8>, 
 }
 
 /// A fault in writing has the number 4.
+/// Promise: every answer is a named one
 pub fn number_of_a_read_fault(status: &Status) -> u8
     requires { status.now ≡ Status.WriteFault }
     ensures { result ≡ 4 }

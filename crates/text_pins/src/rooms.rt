@@ -6,6 +6,7 @@ ghost use Rattle.std.specs.Prelude.{◌≡◌, [], ◌∷◌, true, false};
 use air_devices::{FixedBytes, TapeRoom};
 
 /// If not all bytes fit, those that fit are added.
+/// Promise: a refusal leaves its objects
 pub fn print_past_the_room_adds_nothing(text: &mut FixedBytes, bytes: &[u8]) -> bool
     requires text { text.old ≡ record { bytes = 1 ∷ []; room = 3 } }
     requires bytes { bytes.now ≡ 2 ∷ 3 ∷ 4 ∷ [] }
@@ -16,6 +17,7 @@ pub fn print_past_the_room_adds_nothing(text: &mut FixedBytes, bytes: &[u8]) -> 
 }
 
 /// A record needs room for its length too.
+/// Promise: buckets and tapes are their grammar
 #[tactic(auto, unfolding(air_model::specs::Tapes::tape_of))]
 pub fn room_without_the_lengths(tape: &mut TapeRoom, bytes: &[u8]) -> bool
     requires tape { tape.old ≡ record { records = []; room = 5 } }
@@ -27,6 +29,7 @@ pub fn room_without_the_lengths(tape: &mut TapeRoom, bytes: &[u8]) -> bool
 }
 
 /// After the record [1] the record [2, 3] is kept with its length, so that the tape is read as both.
+/// Promise: buckets and tapes are their grammar
 #[tactic(auto, unfolding(air_model::specs::Tapes::tape_of, air_model::specs::Tapes::record_bytes))]
 pub fn tape_record_without_its_length(tape: &mut TapeRoom, bytes: &[u8]) -> bool
     requires tape { tape.old ≡ record { records = (1 ∷ []) ∷ []; room = 11 } }

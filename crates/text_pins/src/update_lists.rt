@@ -8,6 +8,7 @@ ghost use Rattle.text_pins.specs.SmallWrites.{one_on_zero, one_write};
 use item_catalog::{ItemList, WriteList};
 
 /// The amount of the last write ends where the text ends.
+/// Promise: texts are exact
 #[tactic(auto, unfolding(air_base::specs::Numbers::number_of, air_base::specs::NumberLists::all_some, item_catalog::specs::Writes::spelled_write, item_catalog::specs::Writes::spelled_value_write, item_catalog::specs::KeptLists::writes_seen))]
 pub fn last_part_filled_with_zeros(writes: &mut WriteList, reads: &ItemList, text: &[u8]) -> bool
     requires reads { reads.now.items ≡ 0 ∷ [] }
@@ -19,6 +20,7 @@ pub fn last_part_filled_with_zeros(writes: &mut WriteList, reads: &ItemList, tex
 }
 
 /// A write with a `-` takes its amount from the base.
+/// Promise: texts are exact
 #[tactic(auto, unfolding(air_base::specs::Numbers::number_of, air_base::specs::NumberLists::all_some, item_catalog::specs::Writes::spelled_write, item_catalog::specs::Writes::spelled_value_write, item_catalog::specs::KeptLists::writes_seen))]
 pub fn plus_for_a_minus(writes: &mut WriteList, reads: &ItemList, text: &[u8]) -> bool
     requires reads { reads.now.items ≡ 0 ∷ [] }
@@ -30,6 +32,7 @@ pub fn plus_for_a_minus(writes: &mut WriteList, reads: &ItemList, text: &[u8]) -
 }
 
 /// A base that isn't among the reads is remembered.
+/// Promise: texts are exact
 #[tactic(auto, unfolding(air_base::specs::Numbers::number_of, air_base::specs::NumberLists::all_some, item_catalog::specs::Writes::spelled_write, item_catalog::specs::Writes::spelled_value_write, item_catalog::specs::KeptLists::writes_seen))]
 pub fn unread_base_taken(writes: &mut WriteList, reads: &ItemList, text: &[u8]) -> bool
     requires reads { reads.now.items ≡ 1 ∷ [] }
@@ -41,6 +44,7 @@ pub fn unread_base_taken(writes: &mut WriteList, reads: &ItemList, text: &[u8]) 
 }
 
 /// An empty part after the last space is no item.
+/// Promise: texts are exact
 #[tactic(auto, unfolding(air_base::specs::Numbers::number_of, air_base::specs::NumberLists::all_some))]
 pub fn trailing_space_taken(items: &mut ItemList, text: &[u8]) -> bool
     requires { text.now ≡ codes "0 " }
@@ -50,6 +54,7 @@ pub fn trailing_space_taken(items: &mut ItemList, text: &[u8]) -> bool
 }
 
 /// Of a text that isn't a list no item is kept, even if its first parts are items.
+/// Promise: a refusal leaves its objects
 #[tactic(auto, unfolding(air_base::specs::Numbers::number_of, air_base::specs::NumberLists::all_some))]
 pub fn items_kept_of_no_list(items: &mut ItemList, text: &[u8]) -> bool
     requires { text.now ≡ codes "0 x" }
@@ -59,6 +64,7 @@ pub fn items_kept_of_no_list(items: &mut ItemList, text: &[u8]) -> bool
 }
 
 /// Of a text that isn't a list no write is kept, even if its first parts are writes.
+/// Promise: a refusal leaves its objects
 #[tactic(auto, unfolding(air_base::specs::Numbers::number_of, air_base::specs::NumberLists::all_some, item_catalog::specs::Writes::spelled_write, item_catalog::specs::Writes::spelled_value_write))]
 pub fn writes_kept_of_no_list(writes: &mut WriteList, reads: &ItemList, text: &[u8]) -> bool
     requires { text.now ≡ codes "1=5 x" }

@@ -4,13 +4,12 @@
 #![tactic(auto, unfolding(air_model::specs::DeckLaws::made_by, air_model::specs::DeckLaws::commits_from))]
 
 ghost use Rattle.std.specs.Prelude.{◌≡◌, ◌≤◌, ◌<◌, ◌+◌, ◌^◌, ◌++◌, ℕ, List, [], ◌∷◌, length, All, Err, IfOk, OnErr, OnOk};
-ghost use Rattle.air_history.specs.Histories.{starts};
+ghost use Rattle.air_history.specs.Histories.{starts, events_in};
 ghost use Rattle.air_history.specs.UpdateRules.{UpdateFits};
 ghost use Rattle.air_history.specs.declared.histories.Event.{Event};
 ghost use Rattle.air_history.specs.declared.histories.Event.TheVariants.{Commit, Start};
 ghost use Rattle.air_model.specs.Decks.{count_made};
 ghost use Rattle.air_model.specs.DeckLaws.{made_by};
-ghost use Rattle.cycle_snapshot.specs.Batches.{batch_events};
 ghost use Rattle.deck_runs.specs.PublishedBatches.{AreInStep};
 ghost use Rattle.deck_runs.specs.Sendings.{CanAirIn};
 ghost use Rattle.thread_pins.specs.SmallBatches.{reads_and_sets, first_batch};
@@ -28,6 +27,7 @@ use std::alloc::Global;
 use std::sync::Wait;
 
 /// A first job of one update makes one commit, of this update with its read, regardless of what others commit at the same time.
+/// Promise: what the calls of a pass do
 pub fn other_or_double_commit<R: Wait, G: Gate>(
     wait: &R,
     alloc: Global,
@@ -48,6 +48,7 @@ pub fn other_or_double_commit<R: Wait, G: Gate>(
 }
 
 /// A first job of two looks looks twice.
+/// Promise: a look is a published prefix
 pub fn one_look_too_few<G: Gate>(monitor: &mut Monitor, gate: &G) -> Result<LookLine, NoMemory>
     requires { monitor.old.looks ≡ 0 }
     ensures { OnOk result (monitor.new.looks ≡ 2) }
@@ -56,6 +57,7 @@ pub fn one_look_too_few<G: Gate>(monitor: &mut Monitor, gate: &G) -> Result<Look
 }
 
 /// A job of one look sees no less than the monitor was told.
+/// Promise: a look is a published prefix
 pub fn look_of_less_than_was_told<G: Gate>(
     monitor: &mut Monitor,
     gate: &G,
@@ -67,6 +69,7 @@ pub fn look_of_less_than_was_told<G: Gate>(
 }
 
 /// The line of a job has the number 0, which the caller replaces.
+/// Promise: run prints what it aired
 pub fn line_of_another_number<G: Gate>(
     monitor: &mut Monitor,
     gate: &G,
@@ -77,6 +80,7 @@ pub fn line_of_another_number<G: Gate>(
 }
 
 /// The line of a last look has the number 0, too.
+/// Promise: run prints what it aired
 pub fn last_line_of_another_number(
     monitor: &mut Monitor,
     publisher: &Publisher,
@@ -89,6 +93,7 @@ pub fn last_line_of_another_number(
 
 /// A first job of two cycles starts two, and publishes two batches: one a cycle, each with its start at the end, and together all that was seen up to
 /// the last start. It also refuses a job of fewer cycles.
+/// Promise: the conductor airs the history
 pub fn cycle_left_out<R: Wait, M: Mast, G: Gate>(
     wait: &R,
     alloc: Global,
@@ -110,7 +115,7 @@ pub fn cycle_left_out<R: Wait, M: Mast, G: Gate>(
     ensures started { OnOk result (starts pass.new.seen ≡ 2) }
     ensures published { OnOk result (length publisher.new.batches ≡ 2) }
     ensures each { All (λ batch. (commits : List Event) × (batch ≡ commits ++ Start ∷ []) × (starts commits ≡ 0)) publisher.new.batches }
-    ensures whole { OnOk result ((later : List Event) × (pass.new.seen ≡ batch_events publisher.new.batches ++ later) × (starts later ≡ 0)) }
+    ensures whole { OnOk result ((later : List Event) × (pass.new.seen ≡ events_in publisher.new.batches ++ later) × (starts later ≡ 0)) }
 {
     conductor_job(
         wait, alloc, station, pass, publisher, board, plans, form, 2, mast, buf, gate,
@@ -120,6 +125,8 @@ pub fn cycle_left_out<R: Wait, M: Mast, G: Gate>(
 /// If a first job of two cycles answers that the mast failed, each cycle that it started is published, and the mast counted a failure. Regardless of
 /// its answer, the board is at the last cycle that it started. It also refuses a job that starts a cycle more than it publishes, a board of an
 /// earlier cycle, and an answer that the mast failed when the job was out of memory.
+/// Promise: every answer is a named one
+/// Promise: a refusal leaves its objects
 pub fn board_left_behind<R: Wait, M: Mast, G: Gate>(
     wait: &R,
     alloc: Global,

@@ -19,6 +19,8 @@ use std::thread::Threads;
 /// A run of three cycles has three starts and three batches. Each of its two monitors has a glance and a look of its own number, and looks at the
 /// last cycle. It also refuses lines of the first monitor only, a glance returned as the look, the batches of before the run, and that a conductor's
 /// fault is ignored.
+/// Promise: the conductor airs the history
+/// Promise: run prints what it aired
 pub fn every_look_of_monitor_0<R: Threads + Wait + Sync, M: Mast + Send, G: Gate + Sync>(
     rt: &R,
     alloc: Global,
@@ -38,6 +40,7 @@ pub fn every_look_of_monitor_0<R: Threads + Wait + Sync, M: Mast + Send, G: Gate
 }
 
 /// The history of a run has the one update of the second updater, though the first has none.
+/// Promise: run prints what it aired
 pub fn one_updater_done_for_all<R: Threads + Wait + Sync, M: Mast + Send, G: Gate + Sync>(
     rt: &R,
     alloc: Global,
@@ -53,6 +56,7 @@ pub fn one_updater_done_for_all<R: Threads + Wait + Sync, M: Mast + Send, G: Gat
 
 /// A run that answers that the mast failed has the number of buckets that it had sent, and the mast counted a failure. It also refuses an answer that
 /// the mast failed when the run was out of memory.
+/// Promise: run prints what it aired
 pub fn sent_buckets_not_counted<R: Threads + Wait + Sync, M: Mast + Send, G: Gate + Sync>(
     rt: &R,
     alloc: Global,

@@ -13,6 +13,7 @@ use std::sync::Wait;
 
 /// A monitor that has seen two batches keeps their cycle, values, columns and total: the frame of all their events. It also refuses
 /// one column for all items, and a list that was seen but isn't kept.
+/// Promise: a look is a published prefix
 pub fn frame_of_half_a_batch(monitor: &mut Monitor) -> Result<(), NoMemory>
     requires { monitor.old.values ≡ first_values }
     ensures { OnOk result (monitor.new.seen ≡ first_batch ∷ second_batch ∷ [] →
@@ -22,6 +23,7 @@ pub fn frame_of_half_a_batch(monitor: &mut Monitor) -> Result<(), NoMemory>
 }
 
 /// The total of a frame is the sum of its values modulo 2^64.
+/// Promise: a look is a published prefix
 pub fn total_without_modulus(monitor: &mut Monitor) -> Result<(), NoMemory>
     requires { monitor.old.values ≡ first_values }
     ensures { OnOk result (monitor.new.seen ≡ first_batch ∷ [] → monitor.new.kept.total ≡ 24) }
@@ -30,6 +32,7 @@ pub fn total_without_modulus(monitor: &mut Monitor) -> Result<(), NoMemory>
 }
 
 /// A monitor that was told two batches sees at least two.
+/// Promise: a look is a published prefix
 pub fn look_goes_back_behind_what_was_told(monitor: &mut Monitor) -> Result<(), NoMemory>
     requires { monitor.old.told ≡ first_batch ∷ second_batch ∷ [] }
     ensures { OnOk result (2 ≤ length monitor.new.seen) }
@@ -38,6 +41,7 @@ pub fn look_goes_back_behind_what_was_told(monitor: &mut Monitor) -> Result<(), 
 }
 
 /// A monitor that is told a batch has been told at least one.
+/// Promise: a look is a published prefix
 pub fn note_forgotten(monitor: &mut Monitor, told: Told)
     requires own { told.publisher ≡ monitor.old.publisher }
     requires told { told.batches ≡ first_batch ∷ [] }
@@ -47,6 +51,7 @@ pub fn note_forgotten(monitor: &mut Monitor, told: Told)
 }
 
 /// A first batch that is published is the whole list.
+/// Promise: a look is a published prefix
 pub fn published_event_dropped<R: Wait>(
     publisher: &mut Publisher,
     wait: &R,
@@ -62,6 +67,7 @@ pub fn published_event_dropped<R: Wait>(
 }
 
 /// A publisher for three monitors has three.
+/// Promise: a look is a published prefix
 pub fn one_monitor_too_few<R: Wait>(
     wait: &R,
     alloc: Global,
@@ -74,6 +80,7 @@ pub fn one_monitor_too_few<R: Wait>(
 }
 
 /// A monitor that looked three times answers three looks.
+/// Promise: a look is a published prefix
 pub fn looks_counted_from_one(monitor: &Monitor) -> u64
     requires { monitor.now.looks ≡ 3 }
     ensures { result ≡ 3 }

@@ -22,6 +22,7 @@ use std::sync::Wait;
 use update_commit::Receipt;
 
 /// The first pass of a new station is that of updater 0.
+/// Promise: one history holds each call once
 pub fn passes_in_reverse_order(
     alloc: Global,
     deck: &Deck,
@@ -33,6 +34,7 @@ pub fn passes_in_reverse_order(
 
 /// After the first commit of an updater it has made one, with the given update, including its read, which no write needs. It also refuses an update
 /// that isn't committed, or is committed twice.
+/// Promise: what the calls of a pass do
 pub fn another_update_committed<R: Wait>(
     station: &Station,
     wait: &R,
@@ -54,6 +56,7 @@ pub fn another_update_committed<R: Wait>(
 
 /// The first cycle is one start and has the number 1. If nothing else was added, the events since the start before are this start alone. It also
 /// refuses a start that is given twice, and a cycle that is answered but not started.
+/// Promise: what the calls of a pass do
 pub fn fresh_without_its_start<R: Wait>(
     station: &Station,
     wait: &R,
@@ -72,6 +75,7 @@ pub fn fresh_without_its_start<R: Wait>(
 }
 
 /// A history that is closed has the starts that its conductor has seen, and no more.
+/// Promise: one history holds each call once
 pub fn start_added_at_the_close(
     station: Station,
     passes: Vec<UpdaterPass>,
@@ -86,6 +90,7 @@ pub fn start_added_at_the_close(
 }
 
 /// A conductor's pass that has seen two starts answers two.
+/// Promise: what the calls of a pass do
 pub fn next_cycle_for_those_started(pass: &ConductorPass) -> u32
     requires { pass.now.seen ≡ first_batch ++ second_batch }
     ensures { result ≡ 2 }
@@ -95,6 +100,7 @@ pub fn next_cycle_for_those_started(pass: &ConductorPass) -> u32
 
 /// If only one commit was added since the first batch, its receipt has its place 2, its cycle 1, the value that it read and the one that it wrote. It
 /// also refuses a receipt of another update.
+/// Promise: what the calls of a pass do
 pub fn receipt_without_its_cycle<R: Wait>(
     station: &Station,
     wait: &R,

@@ -11,6 +11,7 @@ use turnstile::{Chronicle, Pass, Turnstile};
 
 /// Two passes that are made together have the numbers 0 and 1, in this order, each only its own. It also refuses passes that are handed out from the
 /// last, and two passes of one number.
+/// Promise: the turnstile passes on what was seen
 pub fn last_pass_not_dealt<K: Chronicle + Drop>(
     alloc: Global,
     value: K,
@@ -25,6 +26,7 @@ pub fn last_pass_not_dealt<K: Chronicle + Drop>(
 
 /// After a join a pass has its own number and then the other's, and has seen the longer list. It also refuses that the shorter list is kept, and that
 /// the two passes change places.
+/// Promise: the turnstile passes on what was seen
 pub fn join_forgets_the_others_numbers<K: Chronicle>(
     turnstile: &Turnstile<K>,
     pass: &mut Pass<K>,

@@ -1,4 +1,4 @@
-//! The command `drill`: the line of the drill of a seed and a size. Nothing is read for it.
+//! The command `drill`: the drill line of a seed and a size. Nothing is read for it.
 
 ghost use Rattle.std.specs.Prelude.{◌≡◌, ◌≤◌, IfErr, IfOk};
 ghost use Rattle.air_cli.specs.Drill.{DrillGives};

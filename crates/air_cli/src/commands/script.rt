@@ -8,11 +8,10 @@ ghost use Rattle.air_base.specs.declared.limits.TheConstants.{MOST_TAPE_BYTES};
 ghost use Rattle.air_devices.specs.Counts.{NoCountFalls};
 ghost use Rattle.air_model.specs.Outputs.{script_output, script_tape};
 ghost use Rattle.air_cli.specs.Deliveries.{KeepsButDelivered};
-ghost use Rattle.air_cli.specs.Private.OutputPieces.{IsWritten};
+ghost use Rattle.air_cli.specs.Private.OutputPieces.{DeliversPieces, IsStopped, IsWritten};
 ghost use Rattle.air_cli.specs.Answers.{Leaves, QuietAnswers};
 ghost use Rattle.air_cli.specs.Script.{script_meaning};
 ghost use Rattle.air_cli.specs.Private.BeforeDelivery.{IsMade, IsUnmade, ReadsInputs};
-ghost use Rattle.air_cli.specs.Private.Scripting.{AirsScript, IsStopped};
 ghost use Rattle.air_cli.specs.Private.GivenTexts.{script_given};
 
 use crate::commands::reports::script_report;
@@ -75,7 +74,7 @@ fn air_and_print<T: Threads + Sync, S: Shelf>(
     planned: &Planned,
 ) -> Status
     requires { length (script_tape planned.now) ≤ MOST_TAPE_BYTES }
-    ensures airs { AirsScript (option_map (λ name. name.now) output.entry) planned.now (S.state shelf.old) (S.state shelf.new) result }
+    ensures delivers { DeliversPieces (option_map (λ name. name.now) output.entry) (script_given planned.now) (S.state shelf.old) (S.state shelf.new) result }
     ensures rest { KeepsButDelivered (option_map (λ name. name.now) output.entry) (S.state shelf.old).told (S.state shelf.new).told }
     ensures counts { NoCountFalls (S.state shelf.old).faults (S.state shelf.new).faults }
 {
@@ -99,7 +98,7 @@ fn air_to_output<T: Threads + Sync, S: Shelf>(
     requires { length (script_tape planned.now) ≤ MOST_TAPE_BYTES }
     ensures text { IfOk result (λ text. text.items ≡ script_output planned.now) }
     ensures whole { OnOk result (IsWritten (option_map (λ name. name.now) output.entry) (script_tape planned.now) (S.state shelf.old) (S.state shelf.new)) }
-    ensures stopped { IfErr result (IsStopped (option_map (λ name. name.now) output.entry) planned.now (S.state shelf.old) (S.state shelf.new)) }
+    ensures stopped { IfErr result (IsStopped (option_map (λ name. name.now) output.entry) (script_tape planned.now) (S.state shelf.old) (S.state shelf.new)) }
 {
     let Ok(()) = begin_output(shelf, output) else {
         return Err(Status::WriteFault);

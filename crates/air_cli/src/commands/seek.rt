@@ -2,18 +2,17 @@
 //!
 //! The tape is read in pieces, and each record is heard once (`tapes`). Nothing is printed here: the line is delivered at the end.
 
-ghost use Rattle.std.specs.Prelude.{◌≡◌, ◌∷◌, [], IfErr, IfOk, map};
-ghost use Rattle.air_base.specs.Numbers.{number_text};
-ghost use Rattle.air_model.specs.Rows.{rows_text};
+ghost use Rattle.std.specs.Prelude.{◌≡◌, IfErr, IfOk};
 ghost use Rattle.air_cli.specs.Private.BeforeDelivery.{IsMade, IsUnmade, ReadsInputs};
 ghost use Rattle.air_cli.specs.Seek.{seek_meaning, sought_line};
 
+use crate::outputs::lines::line_text;
 use crate::outputs::report_and_tape::ReportAndTape;
 use crate::tapes::searches::file_sought;
 use air_base::NoMemory;
 use air_devices::Shelf;
 use air_index::Sought;
-use air_report::{Status, finish, put_numbers, row_writer};
+use air_report::Status;
 use std::alloc::Global;
 use std::thread::Threads;
 
@@ -52,20 +51,10 @@ fn sought_text(alloc: Global, item: u16, answer: Sought) -> Result<Vec<u8>, NoMe
             value,
         } => {
             let (item, opens, cycle) = (u64::from(item), u64::from(opens), u64::from(cycle));
-            text_of_line(alloc, b"found", &[item, opens, place, cycle, value])
+            line_text(alloc, b"found", &[item, opens, place, cycle, value])
         }
         Sought::Lost { opens } => {
-            text_of_line(alloc, b"lost", &[u64::from(item), u64::from(opens)])
+            line_text(alloc, b"lost", &[u64::from(item), u64::from(opens)])
         }
     }
-}
-
-/// The line of a word and numbers.
-#[tactic(auto, unfolding(air_model::specs::Rows::rows_text))]
-fn text_of_line(alloc: Global, word: &[u8], numbers: &[u64]) -> Result<Vec<u8>, NoMemory>
-    ensures { IfOk result (λ text. text.items ≡ rows_text ((word.now ∷ map number_text numbers.now) ∷ [])) }
-{
-    let wtr = put_numbers(alloc, row_writer(Vec::new(alloc)), word, numbers)?;
-    let text = finish(wtr)?;
-    Ok(text)
 }

@@ -16,7 +16,7 @@ use crate::files::decks::read_deck_file;
 use crate::outputs::report_and_tape::ReportAndTape;
 use air_base::{NoMemory, write_u64};
 use air_devices::Shelf;
-use air_report::{Status, finish, put_row, row_writer};
+use air_report::{Status, add_row, finish, row_writer};
 use csv::Writer;
 use disk_split::{Split, SplitFault, best_split};
 use item_catalog::Deck;
@@ -69,33 +69,33 @@ fn split_text(alloc: Global, deck: &Deck, split: &Split) -> Result<Vec<u8>, NoMe
     requires given_narrow { split.now.given < 2 ^ 64 }
     ensures { IfOk result (λ text. text.items ≡ split_text deck.now split.now.sizes) }
 {
-    let begun = row_writer(Vec::new(alloc));
+    let mut wtr = row_writer(Vec::new(alloc));
     let best = split.sizes.as_slice();
-    let first = put_split(alloc, begun, b"split", best, split.cost as u64)?;
+    put_split(alloc, &mut wtr, b"split", best, split.cost as u64)?;
     let own = own_sizes(alloc, deck)?;
-    let both = put_split(alloc, first, b"given", &own, split.given as u64)?;
-    let text = finish(both)?;
+    put_split(alloc, &mut wtr, b"given", &own, split.given as u64)?;
+    let text = finish(wtr)?;
     Ok(text)
 }
 
 /// Adds the row of sizes and of what they cost.
 fn put_split(
     alloc: Global,
-    wtr: Writer<Vec<u8>>,
+    wtr: &mut Writer<Vec<u8>>,
     name: &[u8],
     sizes: &[u16],
     cost: u64,
-) -> Result<Writer<Vec<u8>>, NoMemory>
-    requires { IsRowWriter wtr }
-    ensures ready { IfOk result IsRowWriter }
-    ensures text { IfOk result (λ more. written_text more
-        ≡ written_text wtr ++ row_text row_writer (name.now ∷ list_text (map number_text sizes.now) ∷ number_text cost ∷ [])) }
+) -> Result<(), NoMemory>
+    requires { IsRowWriter wtr.old }
+    ensures ready { OnOk result (IsRowWriter wtr.new) }
+    ensures text { OnOk result (written_text wtr.new
+        ≡ written_text wtr.old ++ row_text row_writer (name.now ∷ list_text (map number_text sizes.now) ∷ number_text cost ∷ [])) }
 {
     let sizes = sizes_text(alloc, sizes)?;
     let mut number = Vec::new(alloc);
     write_u64(cost, &mut number)?;
-    let wtr = put_row(wtr, &[name, sizes.as_slice(), number.as_slice()])?;
-    Ok(wtr)
+    add_row(wtr, &[name, sizes.as_slice(), number.as_slice()])?;
+    Ok(())
 }
 
 /// The sizes as a list: numbers separated by single spaces.

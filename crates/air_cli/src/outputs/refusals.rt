@@ -22,7 +22,7 @@ pub fn refuse<S: Shelf>(alloc: Global, shelf: &mut S, status: Status) -> Status
     }
 }
 
-/// Prints the line of a status; a print that fails leaves out the rest of the line.
+/// Prints the fault line of a status; a print that fails leaves out the rest of the line.
 #[tactic(auto, using(crate::proofs::DeliveryLemmas::print_steady))]
 fn print_line<S: Shelf>(alloc: Global, shelf: &mut S, status: &Status) -> Result<(), NoMemory>
     ensures line { OnOk result

@@ -2,7 +2,7 @@
 
 ghost use Rattle.std.specs.Prelude.{◌≡◌};
 ghost use Rattle.air_base.specs.Numbers.{number_of};
-ghost use Rattle.air_cli.specs.Words.{item_of, place_of};
+ghost use Rattle.air_cli.specs.Words.{asked_item, asked_place};
 
 use air_base::read_u64;
 
@@ -13,8 +13,8 @@ pub const LAST_ITEM: u64 = 65_534;
 pub const LAST_PLACE: u64 = 4_294_967_295;
 
 /// The item that a word spells, if it is a number of one.
-pub(crate) fn item_of(word: &str) -> Option<u16>
-    ensures { result ≡ item_of (number_of word.now) }
+pub(crate) fn asked_item(word: &str) -> Option<u16>
+    ensures { result ≡ asked_item (number_of word.now) }
 {
     match read_u64(word.as_bytes()) {
         Some(item) if item <= LAST_ITEM => Some(item as u16),
@@ -23,8 +23,8 @@ pub(crate) fn item_of(word: &str) -> Option<u16>
 }
 
 /// The place that a word spells, if it is a number of one.
-pub(crate) fn place_of(word: &str) -> Option<u32>
-    ensures { result ≡ place_of (number_of word.now) }
+pub(crate) fn asked_place(word: &str) -> Option<u32>
+    ensures { result ≡ asked_place (number_of word.now) }
 {
     match read_u64(word.as_bytes()) {
         Some(place) if place <= LAST_PLACE => Some(place as u32),

@@ -2,8 +2,8 @@
 //!
 //! It tells nothing of what it holds, since no contract can say what a file keeps. It has one number for all of its counts, and
 //! keeps what the system said of the last failure. It reads on in the file that was picked last; under any other name it reads
-//! nothing. No output of it changes a file that it has read, under any name: such an output is refused before it is touched. It
-//! has room for sixteen such files, and for names of 4,096 bytes; a pick past either limit fails. No call takes memory.
+//! nothing. No output of it changes a file that it has read, under any name: such an output is refused before it is touched. An output
+//! is opened anew for each append. It has room for sixteen such files, and for names of 4,096 bytes; a pick past either limit fails. No call takes memory.
 
 ghost use Rattle.std.specs.Prelude.{◌≡◌, ◌≢◌, ◌≤◌, ◌<◌, [], None, Ok, Some, true, length, IsErr, IsSome, OnErr, OnOk};
 ghost use Rattle.std.specs.Io.{ReadsAtMost};

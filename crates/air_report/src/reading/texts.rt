@@ -1,4 +1,4 @@
-//! The lines of reports read from texts: one pass over the records, each dropped once its line is read.
+//! The lines of reports read from texts: one walk over the records, each dropped once its line is read.
 
 ghost use Rattle.std.specs.Prelude.{◌≤◌, length, IfErr, IfOk};
 ghost use Rattle.air_report.specs.declared.reading.limits.TheConstants.{MOST_REPORT_BYTES};

@@ -1,8 +1,8 @@
 //! Rows written as CSV after a text: those of reports, plans and fault lines.
 //!
-//! A writer is ready between two rows. `put_row` and `put_numbers` take a writer and return it with one row more; out of memory they drop it, with
-//! its text. `finish` returns the text of all rows. The calls that write part of a row change a writer in place. Their contracts say nothing of it
-//! once they are out of memory: the caller then drops it.
+//! A writer is ready between two rows. `add_row` and `add_numbers` add a row, and the calls that write part of a row add that. Their contracts say
+//! nothing of the writer once they are out of memory: the caller then drops it. `put_numbers` takes a writer and returns it with one row more; out of
+//! memory it drops it, with its text. `finish` returns the text of all rows.
 
 ghost use Rattle.std.specs.Prelude.{◌≡◌, ◌+◌, ◌<◌, ◌^◌, ◌++◌, ◌∷◌, [], ℕ, List, IfOk, OnOk, length, map};
 ghost use Rattle.csv.specs.Writing.{row_text};
@@ -23,20 +23,8 @@ pub fn row_writer(text: Vec<u8>) -> Writer<Vec<u8>>
     WriterBuilder::new().flexible(true).from_writer(text)
 }
 
-/// The writer after the row of these fields.
-pub fn put_row<'a>(wtr: Writer<Vec<u8>>, fields: &[&'a [u8]]) -> Result<Writer<Vec<u8>>, NoMemory>
-    requires { IsRowWriter wtr }
-    ensures ready { IfOk result IsRowWriter }
-    ensures text { IfOk result (λ more.
-        written_text more ≡ written_text wtr ++ row_text row_writer (map (λ f. f.now) fields.now)) }
-{
-    let mut wtr = wtr;
-    add_row(&mut wtr, fields)?;
-    Ok(wtr)
-}
-
 /// Adds the row of these fields.
-pub(crate) fn add_row<'a>(wtr: &mut Writer<Vec<u8>>, fields: &[&'a [u8]]) -> Result<(), NoMemory>
+pub fn add_row<'a>(wtr: &mut Writer<Vec<u8>>, fields: &[&'a [u8]]) -> Result<(), NoMemory>
     requires { IsRowWriter wtr.old }
     ensures ready { OnOk result (IsRowWriter wtr.new) }
     ensures text { OnOk result
@@ -63,7 +51,7 @@ pub fn put_numbers(
 }
 
 /// Adds the row of a tag and numbers.
-pub(crate) fn add_numbers(
+pub fn add_numbers(
     alloc: Global,
     wtr: &mut Writer<Vec<u8>>,
     tag: &[u8],

@@ -11,7 +11,7 @@ use air_model::reports::{CountsLine, LookLine, VerdictLine};
 use std::alloc::Global;
 use std::marker::Model;
 
-/// The parts of a report, each in the order of its rows.
+/// The sections of a report, each in the order of its rows.
 #[derive(Debug, Drop)]
 pub struct Report {
     pub history: History,

@@ -9,6 +9,7 @@ use Rattle.air_model.specs.declared.reports.LookLine.{LookLine}
 use Rattle.bucket_codec.specs.declared.offsets.TheConstants.{HEAD_BYTES}
 use Rattle.station.specs.PassStates.{PassState, new_pass, with_seen}
 use Rattle.cycle_snapshot.specs.SnapshotStates.{MonitorState}
+use Rattle.group_matrix.specs.GroupBoards.{GroupBoard}
 use Rattle.deck_runs.specs.declared.jobs.crews.ConductorRun.{ConductorRun}
 use Rattle.deck_runs.specs.declared.jobs.crews.UpdaterRun.{UpdaterRun}
 use Rattle.deck_runs.specs.declared.jobs.crews.MonitorRun.{MonitorRun}
@@ -22,11 +23,18 @@ passes_of updaters = map (λ run. run.pass) updaters
 abbrev pub monitors_of : List MonitorRun → List MonitorState
 monitors_of watchers = map (λ run. run.monitor) watchers
 
--- The pass is the new one of the station's and the deck's conductor, the board is that of the first values, and the buffer has room for a bucket.
+-- There is a board by groups if the deck has groups, and only then. It has the deck's items, in groups of the deck's size.
+abbrev pub HasGroups : Deck → Option GroupBoard → Type 0
+HasGroups deck None = deck.settings.group ≡ 0
+HasGroups deck (Some groups) = (groups.group ≡ deck.settings.group) × (1 ≤ groups.group) × (length groups.values ≡ length deck.items)
+
+-- The pass is the new one of the station's and the deck's conductor, the board is that of the first values, the buffer has room for a bucket, and
+-- there is what the deck's groups need.
 pub record CanConduct (station : TurnstileId) (deck : Deck) (run : ConductorRun) : Type 0 where
   pub pass : run.pass ≡ new_pass station deck (length deck.updates)
   pub board : run.board ≡ board_of (values_in deck) []
   pub buffer : HEAD_BYTES + entry_len deck.settings.version * length deck.items ≤ length run.buf.items
+  pub groups : HasGroups deck run.groups
 
 -- The pass is a new one of the station and the deck.
 unfoldable pub HasNewPass : TurnstileId → Deck → UpdaterRun → Type 0

@@ -15,7 +15,7 @@ use Rattle.deck_runs.specs.declared.jobs.conductors.ConductFault.{ConductFault}
 use Rattle.deck_runs.specs.declared.jobs.conductors.ConductFault.TheVariants as fault
 use Rattle.deck_runs.specs.declared.jobs.crews.UpdaterRun.{UpdaterRun}
 use Rattle.deck_runs.specs.Private.Crews.{CanConduct, HasNewPass}
-use Rattle.deck_runs.specs.DeckBytes.{deck_bytes}
+use Rattle.air_sender.specs.AiredBytes.{aired_bytes}
 use Rattle.deck_runs.specs.PublishedBatches.{GoesOn, IsUpTo, PublishesOn}
 use Rattle.deck_runs.specs.declared.threads.stages.Stage.{Stage}
 
@@ -64,12 +64,12 @@ pub record SendsBeginning {M : Type 0} (state : M → MastState) (deck : Deck) (
   pub beginning : List Event
   pub later : List Event
   pub begins : seen ≡ beginning ++ later
-  pub sent : Changes (with_buckets (deck_bytes deck beginning)) (state before).told (state now).told
+  pub sent : Changes (with_buckets (aired_bytes deck beginning)) (state before).told (state now).told
   pub calm : (state now).faults ≡ (state before).faults
 
 -- What the conductor's fault says of the mast.
 abbrev pub IsSeenAnswer : {M : Type 0} → (M → MastState) → Deck → List Event → M → M → ConductFault → Type 0
-IsSeenAnswer state deck seen before now (fault.Mast sent) = FailedAt state sent (deck_bytes deck seen) before now
+IsSeenAnswer state deck seen before now (fault.Mast sent) = FailedAt state sent (aired_bytes deck seen) before now
 IsSeenAnswer state deck seen before now fault.NoMemory = SendsBeginning state deck seen before now
 
 -- What a deck's conductor leaves, in one definition. The buckets sent are those of the history that its pass has seen, and the published batches air
@@ -80,7 +80,7 @@ pub record AirsDeck {M : Type 0} (state : M → MastState) (deck : Deck) (p q : 
   pub whole : OnOk result (IsUpTo 0 q.seen g.batches × (starts q.seen ≡ deck.settings.cycles))
   pub batches : OnOk result (AirsByBatches deck q.seen g.batches)
   pub few : starts q.seen ≤ deck.settings.cycles
-  pub aired : MatchResult result (λ _. Changes (with_buckets (deck_bytes deck q.seen)) (state before).told (state now).told × ((state now).faults ≡ (state before).faults)) (IsSeenAnswer state deck q.seen before now)
+  pub aired : MatchResult result (λ _. Changes (with_buckets (aired_bytes deck q.seen)) (state before).told (state now).told × ((state now).faults ≡ (state before).faults)) (IsSeenAnswer state deck q.seen before now)
   pub port : (state now).port ≡ (state before).port
 
 -- The same, for proofs of what runs at the same time, which don't unfold it.

@@ -10,7 +10,7 @@ ghost use Rattle.deck_runs.specs.declared.jobs.TheConstants.{LOOKS};
 ghost use Rattle.deck_runs.specs.Private.StageSteps.{HasAired};
 
 use crate::jobs::LOOKS;
-use crate::jobs::conductors::{ConductFault, conductor_job};
+use crate::jobs::conductors::{ConductFault, conduct_all};
 use crate::jobs::monitors::monitor_job;
 use crate::jobs::updaters::updater_job;
 use air_base::limits::{MOST_MONITORS, MOST_UPDATERS};
@@ -20,23 +20,25 @@ use air_sender::own_form;
 use chunk_program::Planned;
 use control_matrix::Board;
 use cycle_snapshot::{Monitor, Publisher};
+use group_matrix::GroupBoard;
 use station::{ConductorPass, Station, UpdaterPass};
 use std::alloc::Global;
 use std::sync::Wait;
 use std::thread;
 use std::thread::{Threads, join_mut};
 
-/// The conductor: its pass, its board, and room for the bytes of a bucket.
+/// The conductor: its pass, its board, room for the bytes of a bucket, and the board by groups if the deck has groups.
 #[derive(Drop)]
 pub struct ConductorRun {
     pub pass: ConductorPass,
     pub board: Board,
     pub buf: Vec<u8>,
+    pub groups: Option<GroupBoard>,
 }
 
 impl ConductorRun {
-    /// Airs the deck's cycles. The buckets sent are those of the history that the pass has seen. The batches that the publisher has then air this
-    /// history, one a cycle.
+    /// Airs the deck's cycles, by groups if the deck has groups and not otherwise. The buckets sent are those of the history that the pass has seen.
+    /// The batches that the publisher has then air this history, one a cycle.
     pub(crate) fn work<R: Wait, M: Mast, G: Gate>(
         &mut self,
         wait: &R,
@@ -52,13 +54,14 @@ impl ConductorRun {
         ensures { HasAired M.state planned.now self.old.pass self.new.pass publisher.old publisher.new mast.old mast.new result }
     {
         let settings = planned.deck().settings();
-        conductor_job(
+        conduct_all(
             wait,
             alloc,
             station,
             &mut self.pass,
             publisher,
             &mut self.board,
+            &mut self.groups,
             planned.plans(),
             own_form(planned),
             settings.cycles,

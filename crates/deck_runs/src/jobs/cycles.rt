@@ -1,25 +1,27 @@
 //! One cycle of a conductor: it starts, its events change the board, their batch is published, and its buckets are sent.
-ghost use Rattle.std.specs.Prelude.{◌≡◌, ◌<◌, ◌≤◌, ◌+◌, ◌-◌, ◌^◌, ◌++◌, ◌∷◌, List, [], length, All, IfErr, IfOk, MatchResult, OnErr, OnOk};
+ghost use Rattle.std.specs.Prelude.{◌≡◌, ℕ, ◌<◌, ◌≤◌, ◌+◌, ◌-◌, ◌^◌, ◌++◌, ◌∷◌, List, [], length, All, IfErr, IfOk, MatchResult, OnErr, OnOk};
 ghost use Rattle.air_base.specs.declared.limits.TheConstants.{MOST_SLOTS};
 ghost use Rattle.air_history.specs.declared.histories.Event.{Event};
-ghost use Rattle.air_history.specs.Histories.{starts, ItemsFit};
+ghost use Rattle.air_history.specs.Histories.{starts, ItemsFit, events_in};
 ghost use Rattle.air_history.specs.Tables.{BasesRead};
 ghost use Rattle.air_model.specs.Aired.{Air};
-ghost use Rattle.air_sender.specs.BoardBuckets.{EntriesBelow};
+ghost use Rattle.air_sender.specs.BoardBuckets.{EntriesBelow, spread};
 ghost use Rattle.air_sender.specs.AirFaults.{failed_slot};
-ghost use Rattle.cycle_snapshot.specs.Batches.{IsBatch, batch_events};
+ghost use Rattle.cycle_snapshot.specs.Batches.{IsBatch};
 ghost use Rattle.control_matrix.specs.BoardSteps.{step_all};
+ghost use Rattle.group_matrix.specs.GroupBoards.{grouped};
 ghost use Rattle.deck_runs.specs.PublishedBatches.{AreInStep, GoesOn, IsBoardOf, IsPublishedUpTo, IsUpTo, PublishesOn};
 ghost use Rattle.deck_runs.specs.declared.jobs.conductors.ConductFault.TheVariants as fault;
 ghost use Rattle.deck_runs.specs.Sendings.{CanAirIn, IsAirOf, IsFailure};
 ghost use Rattle.deck_runs.specs.Private.CycleSteps.{AddsBatch, SendsCounted, SendsInCycle};
 
+use crate::jobs::airings::Airing;
 use crate::jobs::conductors::ConductFault;
 use crate::jobs::means::Means;
 use air_base::NoMemory;
 use air_devices::Mast;
 use air_history::Event;
-use air_sender::{AirFault, air_cycle, below_law};
+use air_sender::{AirFault, below_law, groups_below_law};
 use control_matrix::Board;
 use cycle_snapshot::Publisher;
 use station::ConductorPass;
@@ -72,12 +74,14 @@ fn begin_cycle<R: Wait>(
     ensures board { IsBoardOf pass.new board.new }
     ensures started { OnOk result (1 ≤ board.new.cycle) }
     ensures below { OnOk result (EntriesBelow board.new) }
+    ensures groups_below { OnOk result ((g : ℕ) → 0 < g → EntriesBelow (spread (grouped g board.new))) }
     ensures sized { OnOk result (length board.new.values ≡ length pass.old.values) }
 {
     let fresh = start_fresh(means, pass)?;
     apply_all(board, &fresh);
     publisher.publish(means.wait, fresh)?;
     below_law();
+    groups_below_law();
     Ok(())
 }
 
@@ -92,12 +96,13 @@ fn slot_of(fault: AirFault) -> u32
 
 /// Conducts one cycle of a job that has already sent `already` buckets, with the program in force in the cycle, and answers the number of the cycle's
 /// buckets. The fault has the number of buckets sent by the job.
-pub fn conduct_cycle<R: Wait, M: Mast>(
+pub fn conduct_cycle<R: Wait, A: Airing, M: Mast>(
     means: &Means<'_, R>,
     already: u64,
     pass: &mut ConductorPass,
     publisher: &mut Publisher,
     board: &mut Board,
+    airing: &mut A,
     mast: &mut M,
     buf: &mut [u8],
 ) -> Result<u32, ConductFault>
@@ -106,6 +111,7 @@ pub fn conduct_cycle<R: Wait, M: Mast>(
     requires room { (starts pass.old.seen < publisher.old.most) × (starts pass.old.seen + 2 < 2 ^ 32) }
     requires airable { CanAirIn means.now.form pass.old.values means.now.plans.now (length buf.old) }
     requires count { already + MOST_SLOTS < 2 ^ 64 }
+    requires suits { A.suits airing.old (length pass.old.values) means.now.form }
     ensures pass { GoesOn pass.old pass.new }
     ensures publisher { PublishesOn publisher.old publisher.new }
     ensures done { OnOk result (AreInStep pass.new publisher.new board.new × (length publisher.new.batches ≡ length publisher.old.batches + 1)) }
@@ -113,8 +119,9 @@ pub fn conduct_cycle<R: Wait, M: Mast>(
     ensures few { OnErr result (starts pass.new.seen ≤ starts pass.old.seen + 1) }
     ensures published { IfErr result (IsPublishedUpTo pass.new.seen publisher.new.batches) }
     ensures slots { IfOk result (λ slots. slots ≤ MOST_SLOTS) }
-    ensures aired { (air : Air) → IsAirOf pass.old.values means.now.form means.now.plans.now air →
-        MatchResult result (λ slots. SendsCounted pass.old.values air 1 slots (batch_events publisher.old.batches) (batch_events publisher.new.batches) (M.state mast.old).told (M.state mast.new).told) (SendsInCycle M.state pass.old.values air already (batch_events publisher.old.batches) (batch_events publisher.new.batches) mast.old mast.new) }
+    ensures kept { (A.group airing.new ≡ A.group airing.old) × A.suits airing.new (length pass.old.values) means.now.form }
+    ensures aired { (air : Air) → IsAirOf (A.group airing.old) pass.old.values means.now.form means.now.plans.now air →
+        MatchResult result (λ slots. SendsCounted pass.old.values air 1 slots (events_in publisher.old.batches) (events_in publisher.new.batches) (M.state mast.old).told (M.state mast.new).told) (SendsInCycle M.state pass.old.values air already (events_in publisher.old.batches) (events_in publisher.new.batches) mast.old mast.new) }
     ensures cause { MatchResult result (λ _. (M.state mast.new).faults ≡ (M.state mast.old).faults) (IsFailure (M.state mast.old).faults (M.state mast.new).faults) }
     ensures port { (M.state mast.new).port ≡ (M.state mast.old).port }
     ensures buffer { length buf.new ≡ length buf.old }
@@ -122,7 +129,7 @@ pub fn conduct_cycle<R: Wait, M: Mast>(
     begin_cycle(means, pass, publisher, board)?;
     let program = means.plans.in_force(board.cycle());
     let slots = program.slots();
-    match air_cycle(program, board, means.form, mast, buf) {
+    match airing.air(program, board, means.form, mast, buf) {
         Ok(()) => Ok(slots),
         Err(fault) => {
             let slot = u64::from(slot_of(fault));

@@ -17,7 +17,7 @@ pub struct Means<'a, R> {
 }
 
 impl<'a, R> Means<'a, R> {
-    /// The means with these parts.
+    /// The means with these fields.
     pub fn new(
         wait: &'a R,
         alloc: Global,

@@ -7,7 +7,7 @@ ghost use Rattle.air_model.specs.Buckets.{entry_len};
 ghost use Rattle.bucket_codec.specs.declared.offsets.TheConstants.{HEAD_BYTES};
 ghost use Rattle.cycle_snapshot.specs.SnapshotStates.{MonitorState, new_monitor, new_publisher};
 ghost use Rattle.std.specs.Thread.{IsSync};
-ghost use Rattle.deck_runs.specs.Private.Crews.{EachDone, EachWatched, HasNewPass, passes_of};
+ghost use Rattle.deck_runs.specs.Private.Crews.{EachDone, EachWatched, HasGroups, HasNewPass, passes_of};
 ghost use Rattle.deck_runs.specs.declared.jobs.crews.MonitorRun.{MonitorRun as Watcher};
 ghost use Rattle.deck_runs.specs.declared.jobs.crews.UpdaterRun.{UpdaterRun as Updater};
 ghost use Rattle.deck_runs.specs.declared.jobs.TheConstants.{LOOKS};
@@ -15,7 +15,7 @@ ghost use Rattle.deck_runs.specs.Private.StageSteps.{HasAired, BeginsWhole, IsEn
 
 use crate::jobs::conductors::ConductFault;
 use crate::jobs::crews::{ConductorRun, MonitorRun, UpdaterRun, update_and_watch};
-use crate::jobs::openings::{first_values, updaters_of, watchers_of};
+use crate::jobs::openings::{groups_of, updaters_of, watchers_of};
 use air_base::NoMemory;
 use air_devices::{Gate, Mast};
 use air_history::History;
@@ -48,12 +48,15 @@ fn conductor_of(
     ensures pass { IfOk result (λ run. run.pass ≡ pass) }
     ensures board { IfOk result (λ run. run.board ≡ board_of (values_in planned.now) []) }
     ensures buffer { IfOk result (λ run. HEAD_BYTES + entry_len planned.now.settings.version * length planned.now.items ≤ length run.buf.items) }
+    ensures groups { IfOk result (λ run. HasGroups planned.now run.groups) }
 {
-    let values = first_values(alloc, planned.deck())?;
+    let deck = planned.deck();
+    let values = deck.values(alloc)?;
     Ok(ConductorRun {
         pass,
         board: Board::new(alloc, &values)?,
         buf: vec![in alloc; 0; bucket_room(planned)]?,
+        groups: groups_of(alloc, deck)?,
     })
 }
 
@@ -88,7 +91,7 @@ fn publisher_of<R: Wait>(
 {
     let deck = planned.deck();
     let settings = deck.settings();
-    let values = first_values(alloc, deck)?;
+    let values = deck.values(alloc)?;
     let made = publisher(wait, alloc, &values, settings.monitors, settings.cycles)?;
     Ok(made)
 }

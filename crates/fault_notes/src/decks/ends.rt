@@ -17,8 +17,18 @@ fn replan_note(before: &RecordsBefore) -> Option<Sentence<'static>> {
     None
 }
 
-/// A note on the end of a deck that declares all this.
-pub fn end_note(before: &RecordsBefore) -> Sentence<'static> {
+/// A note that there are groups with a policy that has none.
+fn group_note(before: &RecordsBefore) -> Sentence<'static> {
+    let wording =
+        "the setting group is #first#, and the policy is #name#: only the policy F has groups";
+    Sentence::words(wording, "", before.policy, "").with(before.group, 0, "")
+}
+
+/// A note on the end of a deck that declares all this, where this kind of fault applies.
+pub fn end_note(before: &RecordsBefore, kind: u8) -> Sentence<'static> {
+    if kind == 10 {
+        return group_note(before);
+    }
     if before.sizes != before.items {
         let wording =
             "the sizes of the disks add up to #first#, and the number of items is #second#";

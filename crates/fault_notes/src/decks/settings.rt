@@ -7,15 +7,16 @@ use crate::records::before::RecordsBefore;
 use crate::words::sentences::{Sentence, range};
 use crate::words::texts::{space_of, why_no_number};
 use air_base::limits::{
-    MOST_CYCLES, MOST_DELTA, MOST_HEARS, MOST_MONITORS, MOST_SHARE, NEWEST_VERSION,
+    MOST_CYCLES, MOST_DELTA, MOST_GROUP, MOST_HEARS, MOST_MONITORS, MOST_SHARE, NEWEST_VERSION,
 };
 use air_base::read_u64;
 
 /// The settings, each with its least and its greatest value; the first has letters for values.
-const SETTINGS: [(&str, u64, u64); 10] = [
+const SETTINGS: [(&str, u64, u64); 11] = [
     ("policy", 0, 0),
     ("delta", 0, MOST_DELTA),
     ("version", 1, NEWEST_VERSION),
+    ("group", 0, MOST_GROUP),
     ("cycles", 0, MOST_CYCLES),
     ("seed", 0, u64::MAX),
     ("loss", 0, MOST_SHARE),
@@ -27,7 +28,7 @@ const SETTINGS: [(&str, u64, u64); 10] = [
 
 /// The place of a setting among them.
 pub fn setting_place(name: &str) -> Option<usize>
-    ensures { IfSome result (λ place. place < 10) }
+    ensures { IfSome result (λ place. place < 11) }
 {
     for place in 0..SETTINGS.len() {
         if SETTINGS[place].0 == name {
@@ -67,7 +68,7 @@ pub fn setting_note<'a>(before: &RecordsBefore, record: &'a Record) -> Option<Se
     let text = record.field(1);
     let Some(place) = setting_place(text) else {
         let wording =
-            "there is no setting #text#: #why#policy, delta, version, cycles, seed, loss, again, late, monitors and hears are the settings";
+            "there is no setting #text#: #why#policy, delta, version, group, cycles, seed, loss, again, late, monitors and hears are the settings";
         return Some(Sentence::words(wording, text, "", space_of(text)));
     };
     let (name, least, most) = SETTINGS[place];

@@ -7,7 +7,8 @@ use air_base::limits::{MOST_REPLANS, MOST_UPDATERS};
 use air_base::read_u64;
 use csv::ByteRecord;
 
-/// The number of each kind of record, and the sums that limits are about; of a report also the row numbers at which its sections begin.
+/// The number of each kind of record, the sums that limits are about, and the settings that a note on the end tells; of a report also the row numbers
+/// at which its sections begin.
 #[derive(Clone, Copy)]
 pub struct RecordsBefore {
     pub items: u64,
@@ -23,7 +24,9 @@ pub struct RecordsBefore {
     pub events: u64,
     pub starts: u64,
     pub commits_by: [u64; MOST_UPDATERS],
-    pub set: [bool; 10],
+    pub set: [bool; 11],
+    pub group: u64,
+    pub policy: &'static str,
     pub begun: [Option<(u32, &'static str)>; 5],
 }
 
@@ -56,6 +59,15 @@ fn number_in(record: &ByteRecord, place: usize) -> u64 {
     read_u64(text_in(record, place).as_bytes()).unwrap_or(0)
 }
 
+/// The letter of a policy.
+fn policy_letter(text: &str) -> &'static str {
+    match text {
+        "D" => "D",
+        "R" => "R",
+        _ => "F",
+    }
+}
+
 impl RecordsBefore {
     /// The counts before any record.
     pub fn new() -> RecordsBefore {
@@ -73,7 +85,9 @@ impl RecordsBefore {
             events: 0,
             starts: 0,
             commits_by: [0; MOST_UPDATERS],
-            set: [false; 10],
+            set: [false; 11],
+            group: 0,
+            policy: "F",
             begun: [None; 5],
         }
     }
@@ -113,6 +127,19 @@ impl RecordsBefore {
         self.last_cycle = number_in(record, 1);
     }
 
+    /// Takes one more setting.
+    fn add_setting(&mut self, record: &ByteRecord) {
+        let name = text_in(record, 1);
+        if let Some(place) = setting_place(name) {
+            self.set[place] = true;
+        }
+        match name {
+            "group" => self.group = number_in(record, 2),
+            "policy" => self.policy = policy_letter(text_in(record, 2)),
+            _ => {}
+        }
+    }
+
     /// Takes one more record of a deck.
     fn add_to_deck(&mut self, record: &ByteRecord, tag: RecordTag) {
         match tag {
@@ -129,11 +156,7 @@ impl RecordsBefore {
             RecordTag::Reader => raise(&mut self.readers),
             RecordTag::Query => raise(&mut self.queries),
             RecordTag::Script => self.add_events(text_in(record, 1)),
-            _ => {
-                if let Some(place) = setting_place(text_in(record, 1)) {
-                    self.set[place] = true;
-                }
-            }
+            _ => self.add_setting(record),
         }
     }
 

@@ -4,7 +4,7 @@ use Rattle.air_base.specs.declared.limits.TheConstants.{MOST_DISKS, MOST_ITEMS, 
 use Rattle.item_catalog.specs.Private.Drafts.{DraftValue}
 use Rattle.item_catalog.specs.declared.deck.draft.Draft.TheInside.{Inside}
 
--- The parts that the fields of a draft have.
+-- What the fields of a draft have.
 abbrev pub draft_seen : Inside → DraftValue
 draft_seen d = record {
   items = d.items.items;

@@ -19,7 +19,7 @@ use Rattle.item_catalog.specs.declared.parts.ItemPart.{ItemPart}
 use Rattle.item_catalog.specs.declared.parts.DiskPart.{DiskPart}
 use Rattle.item_catalog.specs.declared.deck.draft.settings.Setting.{Setting}
 
--- The parts so far, with a list for each updater and each reader that there can be.
+-- What is declared so far, with a list for each updater and each reader that there can be.
 pub record DraftValue : Type 0 where
   pub items : List ItemPart
   pub disks : List DiskPart
@@ -34,7 +34,7 @@ pub record DraftValue : Type 0 where
   pub script : List (Option ℕ)
   pub set : List Setting
 
--- The parts that the declarations so far declare.
+-- What the declarations so far declare.
 abbrev pub draft_of : List Declaration → DraftValue
 draft_of declarations = record {
   items = items_in declarations;
@@ -70,7 +70,7 @@ with_declaration d (e.DeclaredQuery reader items) = record d { queries = push_at
 with_declaration d (e.DeclaredScript events) = record d { script = d.script ++ events }
 with_declaration d (e.DeclaredSetting setting) = record d { set = d.set ++ setting ∷ [] }
 
--- The kinds that a declaration may have after the parts so far, by rising kind, each with its test.
+-- The kinds that a declaration may have after what is declared so far, by rising kind, each with its test.
 abbrev pub draft_tests : DraftValue → Declaration → List (FaultKind × Bool)
 draft_tests d (e.DeclaredItem id value rate) = item_tests (length d.items) id rate
 draft_tests d (e.DeclaredDisk size freq) = disk_tests (length d.disks) size freq
@@ -81,7 +81,7 @@ draft_tests d (e.DeclaredQuery reader items) = query_tests (length d.items) (len
 draft_tests d (e.DeclaredScript events) = script_tests (λ by. length (get_or d.updates by [])) d.script events
 draft_tests d (e.DeclaredSetting setting) = set_tests d.set setting
 
--- The deck of the parts.
+-- The deck of what is declared.
 abbrev pub deck_from : DraftValue → Deck
 deck_from d = record {
   items = map plain_item d.items;
@@ -94,7 +94,7 @@ deck_from d = record {
   settings = settings_in d.set;
 }
 
--- The least kind that applies to what a record spells, after the parts so far.
+-- The least kind that applies to what a record spells, after what is declared so far.
 abbrev pub record_kind : DraftValue → Result Declaration FaultKind → Option FaultKind
 record_kind d spelled = least_kind (draft_tests d) spelled
 

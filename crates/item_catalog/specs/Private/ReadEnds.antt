@@ -1,4 +1,4 @@
--- For private steps only. The end of a reading: what a deck needs of the parts, and what is answered if a kind applies.
+-- For private steps only. The end of a reading: what a deck needs of the draft, and what is answered if a kind applies.
 use Rattle.std.specs.Prelude.{◌≡◌, ◌≤◌, ℕ, Option, Some, None, length, option_map}
 use Rattle.air_base.specs.declared.limits.TheConstants.{MOST_DELTA}
 use Rattle.air_model.specs.Decks.{IsDeck}
@@ -13,7 +13,7 @@ use Rattle.item_catalog.specs.declared.faults.DeckError.TheVariants as error
 use Rattle.item_catalog.specs.declared.faults.FaultKind.{FaultKind}
 use Rattle.item_catalog.specs.declared.deck.draft.settings.Name.TheVariants.{Delta}
 
--- If no kind applies at the end, the parts make a deck.
+-- If no kind applies at the end, the draft makes a deck.
 abbrev pub CanEnd : DraftValue → Type 0
 CanEnd d = first_of (end_tests (length d.items) d.disks d.replans d.set) ≡ None → IsDeck (deck_from d) × WithinLimits (deck_from d) × (number_in Delta d.set ≤ MOST_DELTA)
 

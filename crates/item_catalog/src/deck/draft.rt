@@ -1,4 +1,4 @@
-//! A deck while it is read: the parts that its records declare, one record after another.
+//! A deck while it is read: what its records declare, one record after another.
 //!
 //! Each call takes a record of one tag. It adds what the record spells if no kind of fault applies, and otherwise answers the
 //! least kind. No clause says what a draft is after a fault: it is dropped.
@@ -19,7 +19,9 @@ mod replans;
 pub(crate) mod settings;
 
 use crate::deck::Deck;
-use crate::deck::draft::settings::{Name, Setting, delta_in, most_items, settings_in};
+use crate::deck::draft::settings::{
+    Name, Setting, delta_in, groups_vectors, most_items, settings_in,
+};
 use crate::faults::FaultKind;
 use crate::parts::{
     DiskPart, ItemPart, Queries, ReplanPart, Updates, is_no_freq, narrow_freq, read_freq, sizes_of,
@@ -41,7 +43,7 @@ use csv::ByteRecord;
 use std::alloc::Global;
 use std::marker::Model;
 
-/// The parts so far, with a list for each updater and each reader that there can be, and the lists of the current record.
+/// What is declared so far, with a list for each updater and each reader that there can be, and the lists of the current record.
 #[derive(Debug, Drop)]
 pub struct Draft {
     items: Vec<ItemPart>,
@@ -94,7 +96,7 @@ fn no_queries(alloc: Global) -> Result<Vec<Queries>, NoMemory>
 }
 
 impl Draft {
-    /// No parts.
+    /// Nothing is declared.
     pub fn new(alloc: Global) -> Result<Draft, NoMemory>
         ensures { IfOk result (λ draft. draft ≡ draft_of []) }
     {
@@ -226,10 +228,13 @@ impl Draft {
         if self.items.is_empty() || self.disks.is_empty() || most_items(&self.set) < items {
             return Some(FaultKind::Limit);
         }
+        if groups_vectors(&self.set) {
+            return Some(FaultKind::Setting);
+        }
         None
     }
 
-    /// The deck of the parts, which is well made and within the limits.
+    /// The deck of what is declared, which is well made and within the limits.
     pub fn into_deck(self) -> Deck
         requires made { IsDeck (deck_from self) }
         requires limits { WithinLimits (deck_from self) }

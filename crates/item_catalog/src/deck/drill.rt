@@ -1,6 +1,6 @@
 //! The deck of a drill: made from a seed and a size, with nothing read.
 //!
-//! Its parts are drawn one after another, in the order of the definition `drill_deck`.
+//! It is drawn list by list, in the order of the definition `drill_deck`.
 
 ghost use Rattle.std.specs.Prelude.{◌≡◌, ◌≤◌, ◌<◌, ◌*◌, ◌++◌, [], length, IfOk, OnOk, map};
 ghost use Rattle.std.specs.List.{range_with_len};

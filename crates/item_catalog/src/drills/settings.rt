@@ -27,6 +27,7 @@ pub fn drill_settings(seed: u64) -> Settings
     Settings {
         policy: Policy::FMatrix,
         version: 1,
+        group: 0,
         cycles: DEFAULT_CYCLES as u32,
         seed,
         loss: 5,

@@ -2,6 +2,7 @@
 //!
 //! An item is kept if it is declared and wasn't there before, which an array of marks tells in constant time. So an array has
 //! room for all that is kept, for a list of any length. Of the other items it is remembered that there were some.
+//! No part of the text is looked at more than twice.
 
 ghost use Rattle.std.specs.Prelude.{◌≡◌, ◌<◌, ◌≤◌, ◌&&◌, false, length, nat_lt, not};
 ghost use Rattle.air_base.specs.Numbers.{number_of};

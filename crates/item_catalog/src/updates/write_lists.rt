@@ -1,6 +1,7 @@
 //! A list of writes while it is read.
 //!
 //! As in a list of items, a write is kept if all that it names is declared and its item wasn't written before.
+//! No part of the text is looked at more than twice.
 
 ghost use Rattle.std.specs.Prelude.{◌≡◌, ◌<◌, ◌≤◌, ◌||◌, IfSome, false, length};
 ghost use Rattle.air_base.specs.NumberLists.{list_of};

@@ -7,44 +7,44 @@ use Rattle.air_model.specs.Aired.{Air, fits}
 use Rattle.air_model.specs.Buckets.{Bucket}
 use Rattle.air_model.specs.Sessions.{read_in}
 use Rattle.listeners.specs.declared.judged.JudgedPiece.{JudgedPiece}
-use Rattle.listeners.specs.declared.judged.Run.{Run}
+use Rattle.listeners.specs.declared.judged.Stretch.{Stretch}
 
 -- A member is heard as a bucket, or as bytes that are none.
 abbrev pub member_at : List (Result Bucket BucketFault) → ℕ → Option Bucket
 member_at heard i = get_or (map result_ok heard) i None
 
 -- Where the member is a bucket that gives a read, that is of this item.
-abbrev pub NotesItem : ℕ → Result Bucket BucketFault → Type 0
-NotesItem item (Err fault) = ⊤
-NotesItem item (Ok b) = IfSome (read_in b.cycle b.body) (λ x. x.item ≡ item)
+abbrev pub TellsItem : ℕ → Result Bucket BucketFault → Type 0
+TellsItem item (Err fault) = ⊤
+TellsItem item (Ok b) = IfSome (read_in b.cycle b.body) (λ x. x.item ≡ item)
 
 -- Each member has a note of its item.
-pub record AreNoted (heard : List (Result Bucket BucketFault)) (items : List ℕ) : Type 0 where
+pub record AreItemsOf (heard : List (Result Bucket BucketFault)) (items : List ℕ) : Type 0 where
   pub long : length items ≡ length heard
-  pub each : (i n : ℕ) (d : Result Bucket BucketFault) → i < length heard → NotesItem (get_or items i n) (get_or heard i d)
+  pub each : (i n : ℕ) (d : Result Bucket BucketFault) → i < length heard → TellsItem (get_or items i n) (get_or heard i d)
 
 -- The member is a bucket that fits, of this cycle.
 abbrev pub FitsInCycle : Air → ℕ → Result Bucket BucketFault → Type 0
 FitsInCycle air c (Err fault) = ⊥
 FitsInCycle air c (Ok b) = IsTrue (fits air b) × (b.cycle ≡ c)
 
--- The run that begins with a member has at most the whole run after it, and that only in the same cycle.
-pub record BeginsRun (air : Air) (member : Result Bucket BucketFault) (next run : Run) : Type 0 where
-  pub longer : run.len ≤ next.len + 1
-  pub fitting : 0 < run.len → FitsInCycle air run.cycle member
-  pub same : 1 < run.len → next.cycle ≡ run.cycle
+-- The stretch that begins with a member has at most the whole stretch after it, and that only in the same cycle.
+pub record BeginsStretch (air : Air) (member : Result Bucket BucketFault) (next stretch : Stretch) : Type 0 where
+  pub longer : stretch.len ≤ next.len + 1
+  pub fitting : 0 < stretch.len → FitsInCycle air stretch.cycle member
+  pub same : 1 < stretch.len → next.cycle ≡ stretch.cycle
 
--- The members of a run are there, fit, and are of its cycle.
-pub record IsRun (air : Air) (heard : List (Result Bucket BucketFault)) (i : ℕ) (run : Run) : Type 0 where
-  pub within : i + run.len ≤ length heard
-  pub fitting : (j : ℕ) (d : Result Bucket BucketFault) → j < run.len → FitsInCycle air run.cycle (get_or heard (i + j) d)
+-- The members of a stretch are there, fit, and are of its cycle.
+pub record IsStretch (air : Air) (heard : List (Result Bucket BucketFault)) (i : ℕ) (stretch : Stretch) : Type 0 where
+  pub within : i + stretch.len ≤ length heard
+  pub fitting : (j : ℕ) (d : Result Bucket BucketFault) → j < stretch.len → FitsInCycle air stretch.cycle (get_or heard (i + j) d)
 
--- Each member has the run that begins with it.
-pub record AreRuns (air : Air) (heard : List (Result Bucket BucketFault)) (runs : List Run) : Type 0 where
-  pub long : length runs ≡ length heard
-  pub each : (i : ℕ) (d : Run) → i < length heard → IsRun air heard i (get_or runs i d)
+-- Each member has the stretch that begins with it.
+pub record AreStretches (air : Air) (heard : List (Result Bucket BucketFault)) (stretches : List Stretch) : Type 0 where
+  pub long : length stretches ≡ length heard
+  pub each : (i : ℕ) (d : Stretch) → i < length heard → IsStretch air heard i (get_or stretches i d)
 
 -- The notes of a piece are right for this air.
 pub record IsJudged (air : Air) (piece : JudgedPiece) : Type 0 where
-  pub items : AreNoted piece.heard.items piece.items.items
-  pub runs : AreRuns air piece.heard.items piece.runs.items
+  pub items : AreItemsOf piece.heard.items piece.items.items
+  pub stretches : AreStretches air piece.heard.items piece.stretches.items

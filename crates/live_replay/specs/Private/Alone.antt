@@ -17,8 +17,8 @@ is_after None p = true
 is_after (Some w) p = nat_lt w p
 
 -- Whether the commit at a place writes the item of one of the reads after its origin.
-abbrev pub comes_late : List Event → List ReadAt → ℕ → Bool
-comes_late H R p = list_any (λ r. writes (event_at H p) r.item && is_after (origin H r) p) R
+abbrev pub overwrites_read : List Event → List ReadAt → ℕ → Bool
+overwrites_read H R p = list_any (λ r. writes (event_at H p) r.item && is_after (origin H r) p) R
 
 -- Whether one of these origins is at the place, or its commit writes an item that is looked for.
 abbrev pub is_met : List Event → List (Option ℕ) → ℕ → List Bool → Bool

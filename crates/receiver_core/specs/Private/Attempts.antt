@@ -5,7 +5,7 @@ use Rattle.air_base.specs.declared.verdicts.Policy.{Policy}
 use Rattle.air_base.specs.declared.verdicts.ReadOf.{ReadOf}
 use Rattle.air_model.specs.Buckets.{Bucket, item_of, value_of, entries_of}
 use Rattle.air_model.specs.Judges.{heard_of}
-use Rattle.air_model.specs.Reads.{Read}
+use Rattle.air_model.specs.Reads.{Read, read_with}
 use Rattle.air_model.specs.Sessions.{is_wanted}
 use Rattle.air_history.specs.HeldReads.{HeldReads}
 
@@ -19,13 +19,9 @@ pub record HeldValues : Type 0 where
 abbrev pub columns_of : HeldValues → HeldReads
 columns_of a = record { n = a.items; reads = map heard_of a.reads }
 
--- The read with these parts.
-abbrev pub read : ℕ → ℕ → ℕ → List ℕ → Read
-read item cycle value entries = record { item = item; cycle = cycle; value = value; entries = entries }
-
 -- The read that a bucket with an item gives.
 abbrev pub read_from_bucket : Bucket → Read
-read_from_bucket b = read (item_of b.body) b.cycle (value_of b.body) (entries_of b.body)
+read_from_bucket b = read_with (item_of b.body) b.cycle (value_of b.body) (entries_of b.body)
 
 -- The read as a verdict line has it.
 abbrev pub line_read : Read → ReadOf

@@ -9,7 +9,8 @@ ghost use Rattle.air_model.specs.Buckets.{IsInRange, count_of, item_of, kind_of}
 ghost use Rattle.air_model.specs.Copies.{keep, with_copy};
 ghost use Rattle.air_model.specs.Judges.{by_entries};
 ghost use Rattle.air_model.specs.Sessions.{accept_if_whole, hear, next_attempt, next_query, open_bucket, read_in, wanted, with_line};
-ghost use Rattle.receiver_core.specs.Private.Attempts.{is_read_wanted, read, read_from_bucket};
+ghost use Rattle.air_model.specs.Reads.{read_with};
+ghost use Rattle.receiver_core.specs.Private.Attempts.{is_read_wanted, read_from_bucket};
 ghost use Rattle.receiver_core.specs.Private.Offers.{without_clash};
 ghost use Rattle.receiver_core.specs.FeedAnswers.{fed_of};
 ghost use Rattle.receiver_core.specs.LastReads.{in_state};
@@ -192,7 +193,7 @@ fn offer(
     requires clash { IfSome clash (λ c. c.item < length copies.old.pix) }
     requires item { item < length copies.old.pix }
     requires column { length column.now ≡ length copies.old.pix }
-    ensures { let x = read item cycle value column.now in
+    ensures { let x = read_with item cycle value column.now in
         copies.new ≡ record copies.old { copies = keep copies.old.room copies.old.pix (with_copy x (without_clash clash copies.old.copies)) } }
 {
     if let Some(clash) = clash {

@@ -14,7 +14,7 @@ ghost use Rattle.air_report.specs.RowWriters.{IsRowWriter, written_text};
 
 use air_base::{NoMemory, write_u64};
 use air_model::program::slots_law;
-use air_report::{put_numbers, put_row};
+use air_report::{add_numbers, add_row};
 use chunk_program::{Planned, Program, disk_count, disk_freq};
 use csv::Writer;
 use std::alloc::Global;
@@ -22,79 +22,73 @@ use std::alloc::Global;
 /// Adds the rows of an edition: one for the program, then one for each disk, each minor cycle and each item.
 pub(crate) fn put_edition(
     alloc: Global,
-    wtr: Writer<Vec<u8>>,
+    wtr: &mut Writer<Vec<u8>>,
     planned: &Planned,
     edition: u32,
-) -> Result<Writer<Vec<u8>>, NoMemory>
-    requires ready { IsRowWriter wtr }
+) -> Result<(), NoMemory>
+    requires ready { IsRowWriter wtr.old }
     requires edition { edition < count_editions planned.now }
-    ensures ready { IfOk result IsRowWriter }
-    ensures text { IfOk result (λ more. written_text more
-        ≡ written_text wtr ++ rows_text (edition_rows (rates_in planned.now) (specs_in planned.now edition))) }
+    ensures ready { OnOk result (IsRowWriter wtr.new) }
+    ensures text { OnOk result (written_text wtr.new
+        ≡ written_text wtr.old ++ rows_text (edition_rows (rates_in planned.now) (specs_in planned.now edition))) }
 {
     let program = planned.program(edition);
-    let headed = put_program(alloc, wtr, program)?;
-    let disks = put_disks(alloc, headed, planned, edition)?;
-    let minors = put_minors(alloc, disks, program)?;
-    let whole = put_items(alloc, minors, planned, edition)?;
-    Ok(whole)
+    put_program(alloc, wtr, program)?;
+    put_disks(alloc, wtr, planned, edition)?;
+    put_minors(alloc, wtr, program)?;
+    put_items(alloc, wtr, planned, edition)?;
+    Ok(())
 }
 
 /// Adds the row of the program.
-fn put_program(
-    alloc: Global,
-    wtr: Writer<Vec<u8>>,
-    program: &Program,
-) -> Result<Writer<Vec<u8>>, NoMemory>
-    requires { IsRowWriter wtr }
-    ensures ready { IfOk result IsRowWriter }
-    ensures text { IfOk result (λ more.
-        written_text more ≡ written_text wtr ++ row_text row_writer (program_row program.now.disks)) }
+fn put_program(alloc: Global, wtr: &mut Writer<Vec<u8>>, program: &Program) -> Result<(), NoMemory>
+    requires { IsRowWriter wtr.old }
+    ensures ready { OnOk result (IsRowWriter wtr.new) }
+    ensures text { OnOk result (written_text wtr.new ≡ written_text wtr.old ++ row_text row_writer (program_row program.now.disks)) }
 {
     let ns = [
         u64::from(program.slots()),
         u64::from(program.minors()),
         u64::from(program.minor_len()),
     ];
-    let wtr = put_numbers(alloc, wtr, b"program", &ns)?;
-    Ok(wtr)
+    add_numbers(alloc, wtr, b"program", &ns)?;
+    Ok(())
 }
 
 /// Adds the rows of the disks.
 fn put_disks(
     alloc: Global,
-    wtr: Writer<Vec<u8>>,
+    wtr: &mut Writer<Vec<u8>>,
     planned: &Planned,
     edition: u32,
-) -> Result<Writer<Vec<u8>>, NoMemory>
-    requires ready { IsRowWriter wtr }
+) -> Result<(), NoMemory>
+    requires ready { IsRowWriter wtr.old }
     requires edition { edition < count_editions planned.now }
-    ensures ready { IfOk result IsRowWriter }
-    ensures text { IfOk result (λ more. written_text more
-        ≡ written_text wtr ++ rows_text (map (disk_row (num_minors (disks_in planned.now edition))) (enumerate_from 0 (disks_in planned.now edition)))) }
+    ensures ready { OnOk result (IsRowWriter wtr.new) }
+    ensures text { OnOk result (written_text wtr.new
+        ≡ written_text wtr.old ++ rows_text (map (disk_row (num_minors (disks_in planned.now edition))) (enumerate_from 0 (disks_in planned.now edition)))) }
 {
     let deck = planned.deck();
-    let mut wtr = wtr;
     for d in 0..disk_count(deck, edition) {
-        wtr = put_disk(alloc, wtr, planned, edition, d)?;
+        put_disk(alloc, wtr, planned, edition, d)?;
     }
-    Ok(wtr)
+    Ok(())
 }
 
 /// Adds the row of a disk.
 fn put_disk(
     alloc: Global,
-    wtr: Writer<Vec<u8>>,
+    wtr: &mut Writer<Vec<u8>>,
     planned: &Planned,
     edition: u32,
     d: u32,
-) -> Result<Writer<Vec<u8>>, NoMemory>
-    requires ready { IsRowWriter wtr }
+) -> Result<(), NoMemory>
+    requires ready { IsRowWriter wtr.old }
     requires edition { edition < count_editions planned.now }
     requires disk { d < length (specs_in planned.now edition) }
-    ensures ready { IfOk result IsRowWriter }
-    ensures text { IfOk result (λ more. IfSome (slice_get (disks_in planned.now edition) d) (λ disk.
-        written_text more ≡ written_text wtr ++ row_text row_writer (disk_row (num_minors (disks_in planned.now edition)) (d, disk)))) }
+    ensures ready { OnOk result (IsRowWriter wtr.new) }
+    ensures text { OnOk result (IfSome (slice_get (disks_in planned.now edition) d) (λ disk.
+        written_text wtr.new ≡ written_text wtr.old ++ row_text row_writer (disk_row (num_minors (disks_in planned.now edition)) (d, disk)))) }
 {
     let program = planned.program(edition);
     let ns = [
@@ -103,47 +97,41 @@ fn put_disk(
         u64::from(program.chunks(d)),
         u64::from(program.chunk_len(d)),
     ];
-    let wtr = put_numbers(alloc, wtr, b"disk", &ns)?;
-    Ok(wtr)
+    add_numbers(alloc, wtr, b"disk", &ns)?;
+    Ok(())
 }
 
 /// Adds the rows of the minor cycles.
-fn put_minors(
-    alloc: Global,
-    wtr: Writer<Vec<u8>>,
-    program: &Program,
-) -> Result<Writer<Vec<u8>>, NoMemory>
-    requires { IsRowWriter wtr }
-    ensures ready { IfOk result IsRowWriter }
-    ensures text { IfOk result (λ more. written_text more
-        ≡ written_text wtr ++ rows_text (map (minor_row program.now.disks) (range_with_len 0 (num_minors program.now.disks)))) }
+fn put_minors(alloc: Global, wtr: &mut Writer<Vec<u8>>, program: &Program) -> Result<(), NoMemory>
+    requires { IsRowWriter wtr.old }
+    ensures ready { OnOk result (IsRowWriter wtr.new) }
+    ensures text { OnOk result (written_text wtr.new
+        ≡ written_text wtr.old ++ rows_text (map (minor_row program.now.disks) (range_with_len 0 (num_minors program.now.disks)))) }
 {
-    let mut wtr = wtr;
     for k in 0..program.minors() {
-        wtr = put_minor(alloc, wtr, program, k)?;
+        put_minor(alloc, wtr, program, k)?;
     }
-    Ok(wtr)
+    Ok(())
 }
 
 /// Adds the row of a minor cycle.
 fn put_minor(
     alloc: Global,
-    wtr: Writer<Vec<u8>>,
+    wtr: &mut Writer<Vec<u8>>,
     program: &Program,
     k: u32,
-) -> Result<Writer<Vec<u8>>, NoMemory>
-    requires ready { IsRowWriter wtr }
+) -> Result<(), NoMemory>
+    requires ready { IsRowWriter wtr.old }
     requires minor { k < num_minors program.now.disks }
-    ensures ready { IfOk result IsRowWriter }
-    ensures text { IfOk result (λ more.
-        written_text more ≡ written_text wtr ++ row_text row_writer (minor_row program.now.disks k)) }
+    ensures ready { OnOk result (IsRowWriter wtr.new) }
+    ensures text { OnOk result (written_text wtr.new ≡ written_text wtr.old ++ row_text row_writer (minor_row program.now.disks k)) }
 {
     let mut number = Vec::new(alloc);
     write_u64(u64::from(k), &mut number)?;
     let slots = slots_text(alloc, program, k)?;
     let fields = [b"minor".as_slice(), number.as_slice(), slots.as_slice()];
-    let wtr = put_row(wtr, &fields)?;
-    Ok(wtr)
+    add_row(wtr, &fields)?;
+    Ok(())
 }
 
 /// The slots of a minor cycle, separated by single spaces.
@@ -187,38 +175,37 @@ fn put_slot(slot: Option<u16>, text: &mut Vec<u8>) -> Result<(), NoMemory>
 /// Adds the rows of the items.
 fn put_items(
     alloc: Global,
-    wtr: Writer<Vec<u8>>,
+    wtr: &mut Writer<Vec<u8>>,
     planned: &Planned,
     edition: u32,
-) -> Result<Writer<Vec<u8>>, NoMemory>
-    requires ready { IsRowWriter wtr }
+) -> Result<(), NoMemory>
+    requires ready { IsRowWriter wtr.old }
     requires edition { edition < count_editions planned.now }
-    ensures ready { IfOk result IsRowWriter }
-    ensures text { IfOk result (λ more. written_text more
-        ≡ written_text wtr ++ rows_text (map (item_row (disks_in planned.now edition)) (enumerate_from 0 (rates_in planned.now)))) }
+    ensures ready { OnOk result (IsRowWriter wtr.new) }
+    ensures text { OnOk result (written_text wtr.new
+        ≡ written_text wtr.old ++ rows_text (map (item_row (disks_in planned.now edition)) (enumerate_from 0 (rates_in planned.now)))) }
 {
     let deck = planned.deck();
-    let mut wtr = wtr;
     for i in 0..deck.items() {
-        wtr = put_item(alloc, wtr, planned, edition, i)?;
+        put_item(alloc, wtr, planned, edition, i)?;
     }
-    Ok(wtr)
+    Ok(())
 }
 
 /// Adds the row of an item.
 fn put_item(
     alloc: Global,
-    wtr: Writer<Vec<u8>>,
+    wtr: &mut Writer<Vec<u8>>,
     planned: &Planned,
     edition: u32,
     i: u16,
-) -> Result<Writer<Vec<u8>>, NoMemory>
-    requires ready { IsRowWriter wtr }
+) -> Result<(), NoMemory>
+    requires ready { IsRowWriter wtr.old }
     requires edition { edition < count_editions planned.now }
     requires item { i < length planned.now.items }
-    ensures ready { IfOk result IsRowWriter }
-    ensures text { IfOk result (λ more. IfSome (slice_get planned.now.items i) (λ item.
-        written_text more ≡ written_text wtr ++ row_text row_writer (item_row (disks_in planned.now edition) (i, item.rate)))) }
+    ensures ready { OnOk result (IsRowWriter wtr.new) }
+    ensures text { OnOk result (IfSome (slice_get planned.now.items i) (λ item.
+        written_text wtr.new ≡ written_text wtr.old ++ row_text row_writer (item_row (disks_in planned.now edition) (i, item.rate)))) }
 {
     let deck = planned.deck();
     let program = planned.program(edition);
@@ -230,6 +217,6 @@ fn put_item(
         u64::from(program.next_wake(0, i)),
         program.pix(i, deck.rate(i)),
     ];
-    let wtr = put_numbers(alloc, wtr, b"item", &ns)?;
-    Ok(wtr)
+    add_numbers(alloc, wtr, b"item", &ns)?;
+    Ok(())
 }

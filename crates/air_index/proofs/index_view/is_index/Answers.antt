@@ -6,9 +6,9 @@ pub returns-then-bytes-lt-INDEX_HEAD : goal.returns-then-bytes-lt-INDEX_HEAD
 returns-then-bytes-lt-INDEX_HEAD c = test_short c.args.bytes.now (omega arith)
 
 pub returns-then-bytes-n : goal.returns-then-bytes-n
-returns-then-bytes-n c = test_length c.args.bytes.now c.two_at-n.result c.two_at-n.ensures (omega arith) (search rules)
+returns-then-bytes-n c = test_length c.args.bytes.now c.two_at-n.result c.two_at-n.ensures (search rules)
 
 pub returns : goal.returns
 returns c =
-    test_rest c.args.bytes.now c.two_at-n.result c.four_at.result c.four_at-2.result c.lie_ahead.result c.two_at-n.ensures (omega arith) (search rules) c.four_at.ensures c.four_at-2.ensures
+    test_rest c.args.bytes.now c.two_at-n.result c.four_at.result c.four_at-2.result c.lie_ahead.result c.two_at-n.ensures (search rules) c.four_at.ensures c.four_at-2.ensures
     c.lie_ahead.ensures

@@ -9,7 +9,7 @@ returns-then-has_item-clause-told c r records =
 
 pub returns-else-has_item-clause-told : goal.returns-else-has_item-clause-told
 returns-else-has_item-clause-told c r records =
-    index_next c.args.item c.args.place c.args.wait c.ahead.result c.args.bucket.now r records c.ahead.ensures.wanted c.ahead.ensures.place c.ahead.ensures.skip (sym c.has_item.ensures ∙ c.if-has_item.false)
+    index_next c.args.item c.args.place c.args.wait c.ahead.result c.args.bucket.now r records c.ahead.ensures.stage c.ahead.ensures.place c.ahead.ensures.skip (sym c.has_item.ensures ∙ c.if-has_item.false)
 
 pub returns-else-has_item-clause-reach : goal.returns-else-has_item-clause-reach
-returns-else-has_item-clause-reach c = reach_index c.args.place c.args.wait c.ahead.result c.ahead.ensures.wanted c.ahead.ensures.place c.requires.place c.ranges.wait.fits
+returns-else-has_item-clause-reach c = reach_index c.args.place c.args.wait c.ahead.result c.ahead.ensures.stage c.ahead.ensures.place c.requires.place c.ranges.wait.fits

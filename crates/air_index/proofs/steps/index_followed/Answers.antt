@@ -8,8 +8,8 @@ returns-then-item-count-clause-told c r records =
 
 pub returns-clause-told : goal.returns-clause-told
 returns-clause-told c r records =
-    item_next c.args.item c.args.opens c.args.place c.entry.result c.ahead.result c.args.index.now r records c.ahead.ensures.wanted c.ahead.ensures.place c.ahead.ensures.skip c.entry.ensures.told
+    item_next c.args.item c.args.opens c.args.place c.entry.result c.ahead.result c.args.index.now r records c.ahead.ensures.stage c.ahead.ensures.place c.ahead.ensures.skip c.entry.ensures.told
     (omega (arith, c.count.ensures))
 
 pub returns-clause-reach : goal.returns-clause-reach
-returns-clause-reach c = reach_item c.args.opens c.ahead.result c.ahead.ensures.wanted c.requires.opens
+returns-clause-reach c = reach_item c.args.opens c.ahead.result c.ahead.ensures.stage c.requires.opens

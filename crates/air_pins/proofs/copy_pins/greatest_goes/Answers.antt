@@ -1,8 +1,8 @@
 -- The copy of item 0 gives way: the newcomer and the copy of item 1 go before it.
 use Rattle.std.proofs.Common.{◌<◌, ◌==◌, ◌⊎◌, ℕ, zero, suc, List, [], ◌∷◌, IsTrue, get_or, inl, inr, subst, sym, refl, lit≤, arith}
-use Rattle.air_model.specs.Reads.{Read}
+use Rattle.air_model.specs.Reads.{Read, read_with}
 use Rattle.air_model.specs.Copies.{goes_before}
-use Rattle.pix_cache.specs.Caches.{Cache, GivesWay, copy, copy_among}
+use Rattle.pix_cache.specs.Caches.{Cache, GivesWay, copy_among}
 use Rattle.air_pins.specs.SmallCaches.{of_three}
 use Rattle.air_pins.proofs.copy_pins.greatest_goes.Goals as goal
 
@@ -23,6 +23,6 @@ gives_way = ((refl, lit≤ tt), of_three 0 2, refl, refl, others)
 
 pub returns-clause-answer : goal.returns-clause-answer
 returns-clause-answer c =
-    let at_column : List ℕ → Type 0 = λ entries. GivesWay 2 numbers copies (copy 2 3 70 entries) 0 in
-    let at_cache : Cache → Type 0 = λ k. GivesWay k.room k.pix k.copies (copy 2 3 70 c.args.column.now) 0 in
+    let at_column : List ℕ → Type 0 = λ entries. GivesWay 2 numbers copies (read_with 2 3 70 entries) 0 in
+    let at_cache : Cache → Type 0 = λ k. GivesWay k.room k.pix k.copies (read_with 2 3 70 c.args.column.now) 0 in
     (c.keep.ensures.evicted 0).1 (subst at_cache (sym c.requires.copies) (subst at_column (sym c.requires.column) gives_way))

@@ -1,7 +1,7 @@
-use Rattle.std.proofs.Common.{◌≡◌, ◌<◌, ◌≤◌, ◌+◌, ◌-◌, ◌*◌, ℕ, length, ap, sym, ◌∙◌, arith}
+use Rattle.std.proofs.Common.{◌≡◌, ◌+◌, ◌-◌, ◌*◌, length, ap, sym, ◌∙◌, arith}
 use Rattle.air_model.specs.Disks.{all_items}
 use Rattle.air_model.proofs.Elements.{all_at}
-use Rattle.chunk_program.specs.Editions.{EditionDisks, planned_edition}
+use Rattle.chunk_program.specs.Editions.{EditionDisks}
 use Rattle.air_sender.proofs.PlannedTapes.{edition_more, ends_later, sum_fits}
 use Rattle.air_sender.proofs.airing.tape_bytes.Goals as goal
 

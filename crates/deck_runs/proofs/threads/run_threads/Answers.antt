@@ -8,7 +8,7 @@ use Rattle.cycle_snapshot.specs.Beginnings.{Beginning}
 use Rattle.air_model.specs.Batches.{AirsByBatches}
 use Rattle.air_model.specs.Runs.{IsRun, Run}
 use Rattle.air_model.proofs.BatchLemmas.{airs_further}
-use Rattle.deck_runs.specs.DeckBytes.{deck_bytes}
+use Rattle.air_sender.specs.AiredBytes.{aired_bytes}
 use Rattle.deck_runs.specs.RunAnswers.{IsRunAnswer, run_fault}
 use Rattle.deck_runs.specs.Private.SightSteps.{AreAllSights}
 use Rattle.deck_runs.specs.Private.StageSteps.{BeginsWhole, HasAired, IsEnd}
@@ -142,7 +142,7 @@ returns-clause-aired g c =
     let deck = c.in_ok-stage.stage.planned.now in
     let seen = c.play-conducted.new.self.conductor.pass.seen in
     let H = c.in_ok-history.history in
-    let same = ap (λ d. deck_bytes d c.new.result.history) (sym c.in_ok-stage.ensures.planned) ∙ ap (λ (run : Run). deck_bytes deck run.history) c.new.ensures ∙ same_bytes deck seen H c.in_ok-history.ensures.end.goes_on in
+    let same = ap (λ d. aired_bytes d c.new.result.history) (sym c.in_ok-stage.ensures.planned) ∙ ap (λ (run : Run). aired_bytes deck run.history) c.new.ensures ∙ same_bytes deck seen H c.in_ok-history.ensures.end.goes_on in
     subst (λ l. Changes (with_buckets l) (state c.args.mast.now).told (state c.play-conducted.new.mast).told) (sym same) c.in_ok-conducted.ensures.conducted.aired.0
 
 pub returns-in_err-conducted-clause-port : goal.returns-in_err-conducted-clause-port

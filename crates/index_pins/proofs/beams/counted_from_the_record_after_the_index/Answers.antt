@@ -2,7 +2,7 @@ use Rattle.std.proofs.Common.{◌∙◌, length, ap, sym, subst}
 use Rattle.air_model.specs.Tapes.{TapeRead}
 use Rattle.chunk_program.specs.Editions.{HaveItems, Plans}
 use Rattle.air_index.specs.IndexedTapes.{AreBuckets, slots_after}
-use Rattle.index_pins.specs.ShortPlans.{two_slots, two_items, whole}
+use Rattle.index_pins.specs.ShortPlans.{one_minor_cycle, two_items, whole}
 use Rattle.index_pins.proofs.BeamPins.{slots_are, two_held, two_read, two_written, written_is}
 use Rattle.index_pins.proofs.beams.counted_from_the_record_after_the_index.Goals as goal
 
@@ -20,4 +20,4 @@ pub beam_tape-requires-clause-grammar : goal.beam_tape-requires-clause-grammar
 beam_tape-requires-clause-grammar c = subst (λ (t : TapeRead). AreBuckets t.records) (sym c.requires.tape) two_read
 
 pub returns : goal.returns
-returns c = written_is c.beam_tape.result _ _ _ _ two_items _ (whole two_slots) 2 0 1 c.beam_tape.ensures.written c.requires.plans c.requires.tape two_written
+returns c = written_is c.beam_tape.result _ _ _ _ two_items _ (whole one_minor_cycle) 2 0 1 c.beam_tape.ensures.written c.requires.plans c.requires.tape two_written

@@ -2,7 +2,7 @@ use Rattle.std.proofs.Common.{◌∙◌, length, ap, sym, subst}
 use Rattle.air_model.specs.Tapes.{TapeRead}
 use Rattle.chunk_program.specs.Editions.{HaveItems, Plans}
 use Rattle.air_index.specs.IndexedTapes.{AreBuckets, slots_after}
-use Rattle.index_pins.specs.ShortPlans.{four_slots, two_editions, whole}
+use Rattle.index_pins.specs.ShortPlans.{two_editions, two_minor_cycles, whole}
 use Rattle.index_pins.proofs.BeamPins.{editions_written, four_read, slots_are, three_held, written_is}
 use Rattle.index_pins.proofs.beams.sought_by_the_program_of_its_own_cycle.Goals as goal
 
@@ -20,4 +20,4 @@ pub beam_tape-requires-clause-grammar : goal.beam_tape-requires-clause-grammar
 beam_tape-requires-clause-grammar c = subst (λ (t : TapeRead). AreBuckets t.records) (sym c.requires.tape) four_read
 
 pub returns : goal.returns
-returns c = written_is c.beam_tape.result _ _ _ _ two_editions _ (whole four_slots) 3 0 1 c.beam_tape.ensures.written c.requires.plans c.requires.tape editions_written
+returns c = written_is c.beam_tape.result _ _ _ _ two_editions _ (whole two_minor_cycles) 3 0 1 c.beam_tape.ensures.written c.requires.plans c.requires.tape editions_written

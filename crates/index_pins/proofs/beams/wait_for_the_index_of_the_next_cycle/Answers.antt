@@ -2,7 +2,7 @@ use Rattle.std.proofs.Common.{◌∙◌, length, ap, sym, subst}
 use Rattle.air_model.specs.Tapes.{TapeRead}
 use Rattle.chunk_program.specs.Editions.{HaveItems, Plans}
 use Rattle.air_index.specs.IndexedTapes.{AreBuckets, slots_after}
-use Rattle.index_pins.specs.ShortPlans.{four_slots, two_disks, whole}
+use Rattle.index_pins.specs.ShortPlans.{two_disks, two_minor_cycles, whole}
 use Rattle.index_pins.proofs.BeamPins.{four_read, later_written, slots_are, two_on_disks, written_is}
 use Rattle.index_pins.proofs.beams.wait_for_the_index_of_the_next_cycle.Goals as goal
 
@@ -20,4 +20,4 @@ pub beam_piece-requires-clause-grammar : goal.beam_piece-requires-clause-grammar
 beam_piece-requires-clause-grammar c = subst (λ (t : TapeRead). AreBuckets t.records) (sym c.requires.tape) four_read
 
 pub returns : goal.returns
-returns c = written_is c.beam_piece.result _ _ _ _ two_disks _ (whole four_slots) 2 3 1 c.beam_piece.ensures.written c.requires.plans c.requires.tape later_written
+returns c = written_is c.beam_piece.result _ _ _ _ two_disks _ (whole two_minor_cycles) 2 3 1 c.beam_piece.ensures.written c.requires.plans c.requires.tape later_written

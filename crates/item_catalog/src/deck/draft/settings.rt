@@ -9,15 +9,15 @@ ghost use Rattle.air_model.specs.Buckets.{most_count};
 ghost use Rattle.item_catalog.specs.Declarations.{set_by};
 ghost use Rattle.item_catalog.specs.Private.Drafts.{AddsDeclaration};
 ghost use Rattle.item_catalog.specs.DeckLimits.{SettingsWithin};
-ghost use Rattle.item_catalog.specs.Settings.{default_of, name_of, number_in, number_said, number_set, policy_in, range_of, same_setting, setting_of, settings_in, spelled_policy};
+ghost use Rattle.item_catalog.specs.Settings.{default_of, groups_vectors, name_of, number_in, number_said, number_set, policy_in, range_of, same_setting, setting_of, settings_in, spelled_policy};
 
 use crate::deck::draft::Draft;
 use crate::faults::FaultKind;
 use crate::records::fields::two;
 use crate::records::refusals::Refusal;
 use air_base::limits::{
-    DEFAULT_CYCLES, DEFAULT_HEARS, MOST_CYCLES, MOST_DELTA, MOST_FULL_ITEMS, MOST_HEARS,
-    MOST_ITEMS, MOST_MONITORS, MOST_SHARE, NEWEST_VERSION,
+    DEFAULT_CYCLES, DEFAULT_HEARS, MOST_CYCLES, MOST_DELTA, MOST_FULL_ITEMS, MOST_GROUP,
+    MOST_HEARS, MOST_ITEMS, MOST_MONITORS, MOST_SHARE, NEWEST_VERSION,
 };
 use air_base::{Policy, read_u64};
 use air_model::deck::Settings;
@@ -28,6 +28,7 @@ use csv::ByteRecord;
 pub enum Name {
     Delta,
     Version,
+    Group,
     Cycles,
     Seed,
     Loss,
@@ -52,6 +53,8 @@ fn name_of(text: &[u8]) -> Option<Name>
         Some(Name::Delta)
     } else if text == b"version".as_slice() {
         Some(Name::Version)
+    } else if text == b"group".as_slice() {
+        Some(Name::Group)
     } else if text == b"cycles".as_slice() {
         Some(Name::Cycles)
     } else if text == b"seed".as_slice() {
@@ -93,6 +96,7 @@ fn range_of(name: Name) -> (u64, u64)
     match name {
         Name::Delta => (0, MOST_DELTA),
         Name::Version => (1, NEWEST_VERSION),
+        Name::Group => (0, MOST_GROUP),
         Name::Cycles => (0, MOST_CYCLES),
         Name::Seed => (0, u64::MAX),
         Name::Loss | Name::Again | Name::Late => (0, MOST_SHARE),
@@ -215,6 +219,13 @@ fn policy_in(set: &[Setting]) -> Policy
     Policy::FMatrix
 }
 
+/// Whether a group is set with a policy that airs no columns.
+pub fn groups_vectors(set: &[Setting]) -> bool
+    ensures { result ≡ groups_vectors set.now }
+{
+    0 < number_in(Name::Group, set) && !matches!(policy_in(set), Policy::FMatrix)
+}
+
 /// All settings, if these were set.
 pub fn settings_in(set: &[Setting]) -> Settings
     requires within { SettingsWithin (settings_in set.now) }
@@ -224,6 +235,7 @@ pub fn settings_in(set: &[Setting]) -> Settings
     Settings {
         policy: policy_in(set),
         version: number_in(Name::Version, set) as u8,
+        group: number_in(Name::Group, set) as u16,
         cycles: number_in(Name::Cycles, set) as u32,
         seed: number_in(Name::Seed, set),
         loss: number_in(Name::Loss, set) as u32,

@@ -1,4 +1,4 @@
-use Rattle.std.proofs.Common.{◌≡◌, ◌-◌, ◌∙◌, ℕ, Option, Some, map, refl, length, ap, sym, subst, arith}
+use Rattle.std.proofs.Common.{◌∙◌, ℕ, Option, Some, map, refl, ap, sym, subst, arith}
 use Rattle.std.specs.List.{range_with_len}
 use Rattle.std.proofs.lemmas.List.FromFn.{length-map-range_with_len}
 use Rattle.air_model.specs.Aired.{Air}
@@ -14,11 +14,11 @@ use Rattle.listeners.proofs.cycles.hear_cycle.Goals as goal
 
 pub loop-slot-init : goal.loop-slot-init
 unfolding hears
-loop-slot-init c = record { within = omega arith; heard = refl; buffer = refl }
+loop-slot-init g c = record { within = omega arith; heard = refl; buffer = refl }
 
 pub hear_stretch-requires-clause-counts : goal.hear_stretch-requires-clause-counts
-hear_stretch-requires-clause-counts c =
-    let on : ℕ → Option Bucket = λ s. Some (bucket_on c.args.form c.args.program.now.edition (slots_of c.args.program.now.disks) c.args.board.now s) in
+hear_stretch-requires-clause-counts g c =
+    let on : ℕ → Option Bucket = λ s. Some (bucket_on c.args.form c.args.program.now.edition (slots_of c.args.program.now.disks) (g.S.Source.board c.args.source.now) s) in
     let heard = map on (range_with_len 0 c.loop-slot.slot) in
     let same = ap (λ (l : Listener). heard_count l.state.counts) c.loop-slot.invariant.heard in
     let counted = counted_all heard c.args.listener.now in
@@ -28,21 +28,21 @@ hear_stretch-requires-clause-counts c =
     omega (arith, same, counted, long, within, room)
 
 pub hear_stretch-requires-clause-fitting : goal.hear_stretch-requires-clause-fitting
-hear_stretch-requires-clause-fitting c =
+hear_stretch-requires-clause-fitting g c =
     let slots = slots_of c.args.program.now.disks in
-    let on : ℕ → Option Bucket = λ s. Some (bucket_on c.args.form c.args.program.now.edition slots c.args.board.now s) in
-    subst (λ a. AreFitting a c.args.form c.args.program.now.edition slots c.args.board.now)
+    let on : ℕ → Option Bucket = λ s. Some (bucket_on c.args.form c.args.program.now.edition slots (g.S.Source.board c.args.source.now) s) in
+    subst (λ a. AreFitting a c.args.form c.args.program.now.edition slots (g.S.Source.board c.args.source.now))
     (sym (ap (λ (l : Listener). l.air) c.loop-slot.invariant.heard ∙ keeps_air (map on (range_with_len 0 c.loop-slot.slot)) c.args.listener.now)) c.requires.fitting
 
 pub hear_stretch-requires-clause-own : goal.hear_stretch-requires-clause-own
-hear_stretch-requires-clause-own c =
-    let on : ℕ → Option Bucket = λ s. Some (bucket_on c.args.form c.args.program.now.edition (slots_of c.args.program.now.disks) c.args.board.now s) in
+hear_stretch-requires-clause-own g c =
+    let on : ℕ → Option Bucket = λ s. Some (bucket_on c.args.form c.args.program.now.edition (slots_of c.args.program.now.disks) (g.S.Source.board c.args.source.now) s) in
     c.requires.own
     ∙ ap (λ (a : Air). a.items) (sym (ap (λ (l : Listener). l.air) c.loop-slot.invariant.heard ∙ keeps_air (map on (range_with_len 0 c.loop-slot.slot)) c.args.listener.now))
 
 pub loop-slot-preserved : goal.loop-slot-preserved
-loop-slot-preserved c =
-    let on : ℕ → Option Bucket = λ s. Some (bucket_on c.args.form c.args.program.now.edition (slots_of c.args.program.now.disks) c.args.board.now s) in
+loop-slot-preserved g c =
+    let on : ℕ → Option Bucket = λ s. Some (bucket_on c.args.form c.args.program.now.edition (slots_of c.args.program.now.disks) (g.S.Source.board c.args.source.now) s) in
     let next = c.in_ok-slot.ensures.next in
     let from = next.0 in
     record {

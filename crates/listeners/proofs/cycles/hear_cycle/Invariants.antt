@@ -7,11 +7,11 @@ use Rattle.listeners.proofs.cycles.hear_cycle.Given as goal
 
 -- The slots before were heard.
 abbrev pub invariant-loop-slot : goal.invariant-loop-slot
-invariant-loop-slot l = record {
+invariant-loop-slot g l = record {
   within : l.slot ≤ length (slots_of l.program.disks);
-  heard : l.listener ≡ hears (map (λ s. Some (bucket_on l.form l.program.edition (slots_of l.program.disks) l.board s)) (range_with_len 0 l.slot)) l.fn.listener;
+  heard : l.listener ≡ hears (map (λ s. Some (bucket_on l.form l.program.edition (slots_of l.program.disks) (g.S.Source.board l.source) s)) (range_with_len 0 l.slot)) l.fn.listener;
   buffer : length l.buf ≡ length l.fn.buf;
 }
 
 abbrev pub decreases-loop-slot : goal.decreases-loop-slot
-decreases-loop-slot l = length (slots_of l.program.disks) - l.slot
+decreases-loop-slot g l = length (slots_of l.program.disks) - l.slot

@@ -9,8 +9,8 @@ use Rattle.listeners.proofs.SleepLemmas.{took_settled}
 use Rattle.listeners.proofs.cycles.hear_slot.Goals as goal
 
 pub returns-clause-heard : goal.returns-clause-heard
-returns-clause-heard c = λ n L.
+returns-clause-heard g c = λ n L.
     let r = c.args.receiver.now in
-    let b = bucket_on c.args.form c.args.program.now.edition (slots_of c.args.program.now.disks) c.args.board.now c.args.slot in
+    let b = bucket_on c.args.form c.args.program.now.edition (slots_of c.args.program.now.disks) (g.S.Source.board c.args.source.now) c.args.slot in
     listener_heard n {old = r} {mid = r} {M = L} {N = L} c.hear.new.self (Some b) (took_settled r L c.requires.settled) c.hear.ensures.air c.hear.ensures.reader
-    (c.hear.ensures.state ∙ ap (λ h. hear (by_entries r.air.scheme) r.air r.reader (result_ok h) r.state) (c.decode.ensures.reading ∙ c.encode_slot-len.ensures.decodes))
+    (c.hear.ensures.state ∙ ap (λ h. hear (by_entries r.air.scheme) r.air r.reader (result_ok h) r.state) (c.decode.ensures.reading ∙ c.encode_source-len.ensures.decodes))

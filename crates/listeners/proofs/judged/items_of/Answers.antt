@@ -1,7 +1,5 @@
-use Rattle.std.proofs.Common.{◌≡◌, ◌<◌, ◌∷◌, [], ◌++◌, ◌∙◌, ℕ, Result, length, length-append, get_or, ap, subst, sym, arith}
-use Rattle.air_model.specs.declared.bucket.BucketFault.{BucketFault}
-use Rattle.air_model.specs.Buckets.{Bucket}
-use Rattle.listeners.specs.Private.JudgedPieces.{NotesItem}
+use Rattle.std.proofs.Common.{◌∷◌, [], length, length-append, get_or, ap, subst, sym, arith}
+use Rattle.listeners.specs.Private.JudgedPieces.{TellsItem}
 use Rattle.listeners.proofs.JudgedLemmas.{noted_more}
 use Rattle.listeners.proofs.judged.items_of.Goals as goal
 
@@ -13,7 +11,7 @@ loop-member-preserved c =
     record {
       within = omega (arith, c.loop-member-test.true);
       long = omega (arith, ap length c.in_ok-push.ensures.items, length-append items (c.item_in.result ∷ []), i.long);
-      each = λ k n d below. subst (λ l. NotesItem (get_or l k n) (get_or heard k d)) (sym c.in_ok-push.ensures.items)
+      each = λ k n d below. subst (λ l. TellsItem (get_or l k n) (get_or heard k d)) (sym c.in_ok-push.ensures.items)
           (noted_more heard items c.loop-member.member-index c.item_in.result c.member-item.result i.long c.loop-member-test.true c.member-item.is c.item_in.ensures i.each k n d below);
     }
 

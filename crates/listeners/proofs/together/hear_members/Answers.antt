@@ -5,10 +5,10 @@ use Rattle.listeners.proofs.together.hear_members.Goals as goal
 
 pub returns-clause-heard : goal.returns-clause-heard
 returns-clause-heard g c =
-    each_heard (map result_ok c.args.piece.now.heard.items) c.args.runs.now c.hear_side_by_side.new.runs c.hear_side_by_side.ensures (c.are_done.ensures.0 c.if-not-are_done.false)
+    each_heard (map result_ok c.args.piece.now.heard.items) c.args.readers.now c.hear_side_by_side.new.readers c.hear_side_by_side.ensures (c.are_done.ensures.0 c.if-not-are_done.false)
 
 pub returns-clause-air : goal.returns-clause-air
-returns-clause-air g c = λ air known. each_knows air (map result_ok c.args.piece.now.heard.items) c.args.runs.now c.hear_side_by_side.new.runs c.hear_side_by_side.ensures known
+returns-clause-air g c = λ air known. each_knows air (map result_ok c.args.piece.now.heard.items) c.args.readers.now c.hear_side_by_side.new.readers c.hear_side_by_side.ensures known
 
 pub returns-then-not-are_done-clause-air : goal.returns-then-not-are_done-clause-air
-returns-then-not-are_done-clause-air g c = λ air known. each_knows air (map result_ok c.args.piece.now.heard.items) c.args.runs.now c.hear_side_by_side.new.runs c.hear_side_by_side.ensures known
+returns-then-not-are_done-clause-air g c = λ air known. each_knows air (map result_ok c.args.piece.now.heard.items) c.args.readers.now c.hear_side_by_side.new.readers c.hear_side_by_side.ensures known

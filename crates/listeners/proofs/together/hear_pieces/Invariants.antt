@@ -14,9 +14,9 @@ invariant-loop-records g l = record {
   range : All (λ heard. IfOk heard IsInRange) l.piece.heard.items;
   end : length l.piece.heard.items ≡ 0 → length l.records.records ≡ 0;
   judged : IsJudged l.air l.piece;
-  known : All (KnowsAir l.air) l.runs;
+  known : All (KnowsAir l.air) l.readers;
   heard : (so_far : List (Option Bucket)) × (map bucket_in (tape_read l.fn.tape).records ≡ so_far ++ (map result_ok l.piece.heard.items ++ map bucket_in l.records.records))
-      × (listeners_in l.runs ≡ map (hears so_far) (listeners_in l.fn.runs));
+      × (listeners_in l.readers ≡ map (hears so_far) (listeners_in l.fn.readers));
 }
 
 abbrev pub decreases-loop-records : goal.decreases-loop-records

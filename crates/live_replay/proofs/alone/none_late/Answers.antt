@@ -41,14 +41,14 @@ seek_read-requires c =
     (subst (λ n. All (λ r. r < n) (reads c.index-events-at-then-is_met.result)) (sym (c.forget_written.auto.sought ∙ c.loop-at.auto.sought))
     (reads_fit c.args.events.now (length c.args.sought.now) (c.loop-at.at - 1) c.index-events-at-then-is_met.result c.requires.fits (omega arith) c.index-events-at-then-is_met.is))
 
-pub returns-then-comes_late : goal.returns-then-comes_late
-returns-then-comes_late c =
+pub returns-then-overwrites_read : goal.returns-then-overwrites_read
+returns-then-overwrites_read c =
     let H = c.args.events.now in
     let R = places_of c.args.reads.now in
     let at : ℕ = c.loop-at.at - 1 in
     let m : IsPassed H R (at + 1) c.loop-at.sought = subst (λ k. IsPassed H R k c.loop-at.sought) (omega arith) c.loop-at.invariant in
     let met : is_met H (map (origin H) R) at c.loop-at.sought ≡ true = ap (λ os. is_met H os at c.loop-at.sought) (sym c.requires.origins) ∙ sym c.is_met.ensures ∙ c.if-is_met.true in
-    sym (consistent_fails H R at (met_alone H R at c.loop-at.sought met m) (sym c.comes_late.ensures ∙ c.if-comes_late.true))
+    sym (consistent_fails H R at (met_alone H R at c.loop-at.sought met m.walked) (sym c.overwrites_read.ensures ∙ c.if-overwrites_read.true))
 
 pub loop-at-preserved-then-is_met : goal.loop-at-preserved-then-is_met
 loop-at-preserved-then-is_met c =
@@ -63,7 +63,7 @@ loop-at-preserved-then-is_met c =
     let met : is_met H (map (origin H) R) at old ≡ true = ap (λ os. is_met H os at old) (sym c.requires.origins) ∙ sym c.is_met.ensures ∙ c.if-is_met.true in
     let forgets : Forgets (event_at H at) old mid = forgets_of H at c.index-events-at.result c.writes.result.now old old mid lt c.index-events-at.is c.writes.ensures refl c.forget_written.ensures in
     let seeks : Seeks (event_at H at) mid new = seeks_of H at c.index-events-at-then-is_met.result c.reads.result.now mid mid new lt c.index-events-at-then-is_met.is c.reads.ensures refl c.seek_read.ensures in
-    passed_more H R at old mid new (met_alone H R at old met m) (sym c.comes_late.ensures ∙ c.if-comes_late.false) forgets seeks m
+    passed_more H R at old mid new (met_alone H R at old met m.walked) (sym c.overwrites_read.ensures ∙ c.if-overwrites_read.false) forgets seeks m
 
 pub loop-at-preserved : goal.loop-at-preserved
 loop-at-preserved c =

@@ -5,4 +5,4 @@ use Rattle.live_replay.specs.Private.NamedClashes.{named_by}
 use Rattle.live_replay.proofs.policies.least_named.Given as goal
 
 abbrev pub invariant-loop-k : goal.invariant-loop-k
-invariant-loop-k l = l.least ≡ named_clash (named_by l.replay.history l.naming) (drop l.k (places_of l.held))
+invariant-loop-k l = l.least ≡ named_clash (named_by l.replay.history l.test) (drop l.k (places_of l.held))

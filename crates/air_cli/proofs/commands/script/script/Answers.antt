@@ -1,10 +1,11 @@
-use Rattle.std.proofs.Common.{Bor, List, ℕ, inl}
+use Rattle.std.proofs.Common.{Bor, List, ℕ, refl, inl}
 use Rattle.std.specs.Prelude.{Option}
 use Rattle.std.specs.Option.{option_map}
+use Rattle.air_cli.specs.Private.GivenTexts.{script_given}
 use Rattle.air_cli.specs.Script.{script_meaning}
 use Rattle.air_cli.proofs.RefusalLemmas.{answers_refused, leaves_refused, untouched}
-use Rattle.air_cli.proofs.ScriptAirings.{answers_aired, leaves_aired}
-use Rattle.air_cli.proofs.ScriptLemmas.{reads_for, script_facts, unmade_for}
+use Rattle.air_cli.proofs.PieceAnswers.{answers_pieces, leaves_pieces}
+use Rattle.air_cli.proofs.ScriptLemmas.{made_for, reads_for, script_facts, unmade_for}
 use Rattle.air_cli.proofs.commands.script.script.Goals as goal
 
 pub returns-in-Ok : goal.returns-in-Ok
@@ -15,9 +16,12 @@ returns-in-Ok g c =
     let before = S.state c.args.shelf.now in
     let mid = S.state c.read_script.new.shelf in
     let now = S.state c.air_and_print.new.shelf in
+    let d = c.in-Ok.planned in
+    let reads = reads_for deck output before mid c.read_script.ensures.reads in
     record {
-      answers = answers_aired deck output c.in-Ok.planned before mid now c.air_and_print.result c.in-Ok.ensures.made c.read_script.ensures.reads c.air_and_print.ensures.airs c.air_and_print.ensures.rest;
-      leaves = leaves_aired deck output before mid now c.read_script.ensures.reads c.air_and_print.ensures.rest c.air_and_print.ensures.counts;
+      answers = answers_pieces (script_meaning deck output) (script_given d) before mid now c.air_and_print.result refl (made_for deck output before mid (script_given d) c.in-Ok.ensures.made) reads
+          c.air_and_print.ensures.delivers c.air_and_print.ensures.rest;
+      leaves = leaves_pieces (script_meaning deck output) before mid now reads c.air_and_print.ensures.rest c.air_and_print.ensures.counts;
     }
 
 pub returns-in-NoMemory-clause-answers : goal.returns-in-NoMemory-clause-answers

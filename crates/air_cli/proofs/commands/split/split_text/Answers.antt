@@ -7,6 +7,6 @@ pub returns : goal.returns
 returns c =
     let split = c.args.split.now in
     c.in_ok-text.ensures
-    ∙ split_is c.args.deck.now split.sizes c.as_slice-best.result.now c.deref.result.now split.cost split.given (written_text c.row_writer-begun.result) (written_text c.in_ok-first.first) (written_text c.in_ok-both.both)
-    (c.row_writer-begun.ensures.text ∙ c.new.ensures.items) c.as_slice-best.ensures (c.deref.ensures.value ∙ c.in_ok-own.ensures) c.requires.cost c.requires.given
-    c.in_ok-first.ensures.text c.in_ok-both.ensures.text
+    ∙ split_is c.args.deck.now split.sizes c.as_slice-best.result.now c.deref.result.now split.cost split.given (written_text c.row_writer-wtr.result) (written_text c.put_split.new.wtr) (written_text c.put_split-2.new.wtr)
+    (c.row_writer-wtr.ensures.text ∙ c.new.ensures.items) c.as_slice-best.ensures (c.deref.ensures.value ∙ c.in_ok-own.ensures) c.requires.cost c.requires.given
+    c.in_ok-put_split.ensures.text c.in_ok-put_split-2.ensures.text

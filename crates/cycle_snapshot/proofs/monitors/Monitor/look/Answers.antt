@@ -3,7 +3,8 @@ use mathlib.Core.List.{IsPrefix}
 use Rattle.std.specs.Prelude.{MatchOption}
 use Rattle.left_right.specs.Sides.{view}
 use Rattle.air_history.specs.Boards.{frame_of}
-use Rattle.cycle_snapshot.specs.Batches.{IsBatch, batch_events}
+use Rattle.air_history.specs.Histories.{events_in}
+use Rattle.cycle_snapshot.specs.Batches.{IsBatch}
 use Rattle.cycle_snapshot.specs.Beginnings.{Beginning}
 use Rattle.cycle_snapshot.specs.SideRule.{HasCopied}
 use Rattle.cycle_snapshot.specs.SnapshotStates.{MonitorState, HasLooked}
@@ -26,7 +27,7 @@ invariant_of-self c =
       seen_of = ap (λ l. l.publisher) took.list;
       seen_begins = subst (λ (l : Beginning). IsPrefix l.batches y.list.batches) (sym took.list) (prefix_self y.list.batches);
       told_of = v.told_of ∙ sym t.2.publisher;
-      sized = ap (λ f. length f.values) took.kept ∙ board_values y.values (batch_events y.list.batches);
+      sized = ap (λ f. length f.values) took.kept ∙ board_values y.values (events_in y.list.batches);
     }
 
 pub returns-in-Some-list : goal.returns-in-Some-list
@@ -45,7 +46,7 @@ returns-in-Some-list c =
       told = subst (λ (l : Beginning). IsPrefix c.self.inside.told.batches l.batches) (sym took.list) took.told;
       batches = subst (λ (l : Beginning). All (IsBatch (length (starting_values (last_view c.self.inside)))) l.batches) (sym took.list) (subst (λ vs. All (IsBatch (length vs)) y.list.batches) values took.shown.batches);
       few = subst (λ (l : Beginning). length l.batches ≤ most_in (last_view c.self.inside)) (sym took.list) (subst (λ k. length y.list.batches ≤ k) most took.shown.few);
-      kept = took.kept ∙ (λ i. frame_of (values i) (batch_events (sym took.list i).batches));
+      kept = took.kept ∙ (λ i. frame_of (values i) (events_in (sym took.list i).batches));
       looks = c.saturating_add-self-inside.ensures;
       same = λ i. record n { values = (ap starting_values t.1 ∙ values) i; most = (ap most_in t.1 ∙ most) i };
     }

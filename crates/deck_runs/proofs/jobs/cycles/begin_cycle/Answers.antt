@@ -1,14 +1,14 @@
 use Rattle.std.proofs.Common.{◌≡◌, ◌∙◌, All, length, sym, ap, subst, arith, inr}
-use Rattle.air_history.specs.Histories.{starts, ItemsFit}
+use Rattle.air_history.specs.Histories.{starts, ItemsFit, events_in}
 use Rattle.air_history.specs.Tables.{BasesRead}
 use Rattle.cycle_snapshot.specs.Batches.{IsBatch}
 use Rattle.control_matrix.specs.BoardSteps.{step_all}
 use Rattle.cycle_snapshot.proofs.BatchLemmas.{batch_starts}
 use Rattle.deck_runs.specs.PublishedBatches.{IsUpTo}
-use Rattle.air_sender.specs.BoardBuckets.{EntriesBelow}
+use Rattle.air_sender.specs.BoardBuckets.{EntriesBelow, spread}
+use Rattle.group_matrix.specs.GroupBoards.{grouped}
 use Rattle.deck_runs.proofs.CycleLemmas.{at_fault, board_ahead, board_cycle, board_kept, board_seen, board_sized, in_step}
 use Rattle.deck_runs.proofs.SendLemmas.{beginning, last, started}
-use Rattle.cycle_snapshot.specs.Batches.{batch_events}
 use Rattle.deck_runs.proofs.jobs.cycles.begin_cycle.Goals as goal
 
 pub apply_all-requires-clause-fits : goal.apply_all-requires-clause-fits
@@ -16,7 +16,7 @@ apply_all-requires-clause-fits g c =
     let p = c.args.pass.now in
     let f = c.args.publisher.now in
     let s = c.in_ok-fresh.ensures.started f.batches c.requires.step.published in
-    let sized = board_sized p.values c.args.board.now (batch_events f.batches) c.requires.step.board in
+    let sized = board_sized p.values c.args.board.now (events_in f.batches) c.requires.step.board in
     subst (λ n. All (ItemsFit n) c.deref.result.now) (sym sized) (subst (All (ItemsFit (length p.values))) (sym c.deref.ensures.value) s.0.fits)
 
 pub apply_all-requires-clause-room : goal.apply_all-requires-clause-room
@@ -70,6 +70,17 @@ returns-clause-below g c =
     let board = c.apply_all.new.board in
     let on = c.start_fresh.ensures.on in
     subst EntriesBelow (sym (last p q f h board on b.0 b.1)) (c.below_law.ensures p.values (beginning p q f h board on b.0 b.1))
+
+pub returns-clause-groups_below : goal.returns-clause-groups_below
+returns-clause-groups_below g c =
+    let b = returns-clause-begun g c in
+    let p = c.args.pass.now in
+    let q = c.start_fresh.new.pass in
+    let f = c.args.publisher.now in
+    let h = c.publish.new.self in
+    let board = c.apply_all.new.board in
+    let on = c.start_fresh.ensures.on in
+    λ n pos. subst (λ b. EntriesBelow (spread (grouped n b))) (sym (last p q f h board on b.0 b.1)) (c.groups_below_law.ensures n p.values (beginning p q f h board on b.0 b.1) pos)
 
 pub returns-clause-sized : goal.returns-clause-sized
 returns-clause-sized g c =

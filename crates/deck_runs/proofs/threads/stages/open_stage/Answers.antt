@@ -17,7 +17,7 @@ returns c =
       planned = refl;
       unplayed = record {
         conductor = can_conduct deck _ _ station c.in_ok-station.pass c.station.view_is c.in_ok-conductor.ensures.pass (first.conductor ∙ ap (λ d. new_pass station d (length d.updates)) told)
-            c.in_ok-conductor.ensures.board c.in_ok-conductor.ensures.buffer;
+            c.in_ok-conductor.ensures.board c.in_ok-conductor.ensures.buffer c.in_ok-conductor.ensures.groups;
         updaters = subst (λ t. AreNewUpdaters t deck updaters) (sym c.station.view_is) new;
         ready = subst (λ t. All (HasNewPass t deck) updaters) (sym c.station.view_is) (all_ready station deck updaters new);
         room = (c.in_ok-with_capacity.ensures.items, omega (arith, c.in_ok-with_capacity.ensures.capacity, c.len.ensures, c.in_ok-updaters.updaters.ok.0));

@@ -1,4 +1,4 @@
-use Rattle.std.proofs.Common.{◌≡◌, ◌+◌, ◌-◌, ◌<◌, ◌∙◌, ℕ, Option, Some, map, ap, arith}
+use Rattle.std.proofs.Common.{◌+◌, ◌-◌, ◌∙◌, ℕ, Option, Some, map, ap, arith}
 use Rattle.std.specs.List.{range_with_len}
 use Rattle.air_model.specs.Buckets.{Bucket}
 use Rattle.air_model.specs.Programs.{program as slots_of}
@@ -11,7 +11,7 @@ use Rattle.listeners.proofs.SleepLemmas.{before_end, one_more, stretch_took}
 use Rattle.listeners.proofs.listener.Listener.hear_stretch.Goals as goal
 
 pub sleep-next-requires-clause-counts : goal.sleep-next-requires-clause-counts
-sleep-next-requires-clause-counts c =
+sleep-next-requires-clause-counts g c =
     let took = c.in_ok-take_verdicts.ensures in
     let inner = c.self.inside in
     let same = took_counts {r = inner.receiver} {M = inner.lines.items} {mid = c.take_verdicts.new.receiver} {N = c.take_verdicts.new.lines.items}
@@ -21,7 +21,7 @@ sleep-next-requires-clause-counts c =
     omega arith
 
 pub hear_slot-requires-clause-counts : goal.hear_slot-requires-clause-counts
-hear_slot-requires-clause-counts c =
+hear_slot-requires-clause-counts g c =
     let took = c.in_ok-take_verdicts.ensures in
     let inner = c.self.inside in
     let same = took_counts {r = inner.receiver} {M = inner.lines.items} {mid = c.take_verdicts.new.receiver} {N = c.take_verdicts.new.lines.items}
@@ -37,12 +37,12 @@ hear_slot-requires-clause-counts c =
     omega arith
 
 pub returns-then-next-slots-clause-heard : goal.returns-then-next-slots-clause-heard
-returns-then-next-slots-clause-heard c =
+returns-then-next-slots-clause-heard g c =
     let took = c.in_ok-take_verdicts.ensures in
     let inner = c.self.inside in
     let s = c.args.slot in
     let next = c.sleep-next.result in
-    let on : ℕ → Option Bucket = λ s. Some (bucket_on c.args.form c.args.program.now.edition (slots_of c.args.program.now.disks) c.args.board.now s) in
+    let on : ℕ → Option Bucket = λ s. Some (bucket_on c.args.form c.args.program.now.edition (slots_of c.args.program.now.disks) (g.S.Source.board c.args.source.now) s) in
     let last = c.if-next-slots.true in
     let counted = c.slots.ensures.counted in
     let within = c.requires.slot in
@@ -52,14 +52,14 @@ returns-then-next-slots-clause-heard c =
     ∙ ap (hears (map on (range_with_len s (next - s)))) c.self.view_is
 
 pub returns-clause-heard : goal.returns-clause-heard
-returns-clause-heard c =
+returns-clause-heard g c =
     let took = c.in_ok-take_verdicts.ensures in
     let inner = c.self.inside in
     let s = c.args.slot in
     let n = inner.number in
     let N = c.take_verdicts.new.lines.items in
     let next = c.sleep-next.result in
-    let on : ℕ → Option Bucket = λ s. Some (bucket_on c.args.form c.args.program.now.edition (slots_of c.args.program.now.disks) c.args.board.now s) in
+    let on : ℕ → Option Bucket = λ s. Some (bucket_on c.args.form c.args.program.now.edition (slots_of c.args.program.now.disks) (g.S.Source.board c.args.source.now) s) in
     let from = c.sleep-next.ensures.next.0 in
     one_more on s next (listening n c.take_verdicts.new.receiver N) (listening n c.sleep-next.new.receiver N) (listening n c.hear_slot.new.receiver N) from
     (c.sleep-next.ensures.slept n N) (c.hear_slot.ensures.heard n N)

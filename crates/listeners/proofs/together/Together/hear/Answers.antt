@@ -13,8 +13,8 @@ hear_pieces-requires-clause-counts g c κs within =
 
 pub returns : goal.returns
 returns g c =
-    let runs = c.self.inside.runs in
-    let now = c.hear_pieces.new.runs in
+    let readers = c.self.inside.readers in
+    let now = c.hear_pieces.new.readers in
     let members = map bucket_in (tape_read c.args.tape.now).records in
-    let long : length now ≡ runs.len = omega (arith, c.hear_pieces.auto.runs, c.deref_mut.ensures.len) in
-    ap listeners_in (with_items_is runs now long) ∙ c.in_ok-hear_pieces.ensures.heard ∙ ap (map (hears members)) (ap listeners_in c.deref_mut.ensures.value ∙ c.self.view_is)
+    let long : length now ≡ readers.len = omega (arith, c.hear_pieces.auto.readers, c.deref_mut.ensures.len) in
+    ap listeners_in (with_items_is readers now long) ∙ c.in_ok-hear_pieces.ensures.heard ∙ ap (map (hears members)) (ap listeners_in c.deref_mut.ensures.value ∙ c.self.view_is)

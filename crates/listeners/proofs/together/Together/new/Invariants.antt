@@ -5,4 +5,4 @@ use Rattle.listeners.specs.Private.TogetherSteps.{listeners_in}
 use Rattle.listeners.proofs.together.Together.new.Given as goal
 
 abbrev pub invariant-loop-r : goal.invariant-loop-r
-invariant-loop-r l = listeners_in l.runs.items ≡ map (listener_of l.planned) (range_with_len 0 l.r)
+invariant-loop-r l = listeners_in l.readers.items ≡ map (listener_of l.planned) (range_with_len 0 l.r)

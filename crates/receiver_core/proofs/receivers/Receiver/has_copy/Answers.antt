@@ -2,7 +2,7 @@ use Rattle.std.proofs.Common.{◌∙◌, ap, refl, sym}
 use Rattle.std.specs.Option.{is_some}
 use Rattle.air_model.specs.Sessions.{copy_of, wanted}
 use Rattle.pix_cache.specs.Caches
-use Rattle.pix_cache.specs.Caches.{copy}
+use Rattle.air_model.specs.Reads.{read_with}
 use Rattle.pix_cache.specs.declared.store.Kept.{Kept}
 use Rattle.receiver_core.specs.Receivers.{Receiver}
 use Rattle.receiver_core.proofs.KeepsLemmas.{item_within, some_got}
@@ -22,6 +22,6 @@ pub returns : goal.returns
 returns c =
     let r = c.self.inside in
     let wants = ap (λ (v : Receiver). wanted v.reader v.state) c.self.view_is ∙ sym c.wanted.ensures.told ∙ c.in-Some.is in
-    c.is_some.ensures ∙ some_got (λ (k : Kept). copy c.in-Some.item k.cycle k.value k.column.now) (Caches.copy_among c.in-Some.item r.copies.copies) c.get.result c.get.ensures
+    c.is_some.ensures ∙ some_got (λ (k : Kept). read_with c.in-Some.item k.cycle k.value k.column.now) (Caches.copy_among c.in-Some.item r.copies.copies) c.get.result c.get.ensures
     ∙ sym (ap is_some (kept_at r c.in-Some.item (Caches.copy_among c.in-Some.item r.copies.copies) wants refl))
     ∙ ap (λ (v : Receiver). is_some (copy_of (wanted v.reader v.state) v.state)) c.self.view_is

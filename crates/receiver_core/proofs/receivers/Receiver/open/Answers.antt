@@ -1,12 +1,12 @@
 use Rattle.std.proofs.Common.{◌≡◌, None, Some, ◌∙◌, ap, subst, sym}
 use Rattle.std.specs.Vec.{with_items}
-use Rattle.air_history.specs.Columns.{scheme_of}
+use Rattle.receiver_core.proofs.AttemptLemmas.{entries_clash}
 use Rattle.air_history.specs.HeldReads.{IsNew}
 use Rattle.air_model.specs.Buckets.{item_of}
 use Rattle.air_model.specs.Judges.{by_entries, heard_of}
-use Rattle.air_model.specs.Reads.{Read}
+use Rattle.air_model.specs.Reads.{Read, read_with}
 use Rattle.air_model.specs.Sessions.{comes_aged, open_bucket, wanted}
-use Rattle.receiver_core.specs.Private.Attempts.{columns_of, read, read_from_bucket}
+use Rattle.receiver_core.specs.Private.Attempts.{columns_of, read_from_bucket}
 use Rattle.receiver_core.specs.LastReads.{in_state}
 use Rattle.receiver_core.specs.Receivers.{Receiver}
 use Rattle.receiver_core.specs.ReceiverFields.{IsWholeRead, receiver_in}
@@ -31,9 +31,9 @@ try_hold-clash-requires-clause-new c =
 pub offer-requires-clause-clash : goal.offer-requires-clause-clash
 offer-requires-clause-clash c =
     let r = c.self.inside in
-    let x = (read c.item-item.result c.cycle-cycle.result c.value-value.result c.fill.new.out) in
+    let x = (read_with c.item-item.result c.cycle-cycle.result c.value-value.result c.fill.new.out) in
     clashes_within r x c.try_hold-clash.result c.self.invariant (left (receiver_in r).reader (receiver_in r).state (item_of c.args.bucket.now.body) (ap (λ (v : Receiver). wanted v.reader v.state) c.self.view_is ∙ c.requires.wanted))
-    (sym (ap (λ p. (by_entries (scheme_of p)).clash r.held.reads x) c.self.invariant.held.policy) ∙ sym c.try_hold-clash.ensures.clash)
+    (entries_clash r.air.scheme _ r.held.reads x c.self.invariant.held.policy ∙ sym c.try_hold-clash.ensures.clash)
 
 pub offer-requires-clause-item : goal.offer-requires-clause-item
 offer-requires-clause-item c =
@@ -45,7 +45,7 @@ offer-requires-clause-column c =
 
 -- The read that was tried, by its parts.
 abbrev told : After-is_far → Read
-told c = read c.item-item.result c.cycle-cycle.result c.value-value.result c.fill.new.out
+told c = read_with c.item-item.result c.cycle-cycle.result c.value-value.result c.fill.new.out
 
 -- It is the read of the bucket.
 told_is : (c : After-is_far) → read_from_bucket c.args.bucket.now ≡ told c
@@ -62,10 +62,10 @@ far_told : (c : After-is_far) → comes_aged c.self.inside.air (receiver_in c.se
 far_told c = far_at c.self.inside (told c) c.is_far.result c.version.result c.is_far.ensures c.version.ensures
 
 -- Its clash with the held reads is the one that was answered.
-clash_told : (c : After-try_hold-clash) → (by_entries c.self.inside.air.scheme).clash c.self.inside.held.reads (read c.item-item.result c.cycle-cycle.result c.value-value.result c.fill.new.out) ≡ c.try_hold-clash.result
+clash_told : (c : After-try_hold-clash) → (by_entries c.self.inside.air.scheme).clash c.self.inside.held.reads (read_with c.item-item.result c.cycle-cycle.result c.value-value.result c.fill.new.out) ≡ c.try_hold-clash.result
 clash_told c =
-    let x = read c.item-item.result c.cycle-cycle.result c.value-value.result c.fill.new.out in
-    sym (ap (λ p. (by_entries (scheme_of p)).clash c.self.inside.held.reads x) c.self.invariant.held.policy) ∙ sym c.try_hold-clash.ensures.clash
+    let x = read_with c.item-item.result c.cycle-cycle.result c.value-value.result c.fill.new.out in
+    entries_clash c.self.inside.air.scheme _ c.self.inside.held.reads x c.self.invariant.held.policy ∙ sym c.try_hold-clash.ensures.clash
 
 -- ---- a read that lies too far
 

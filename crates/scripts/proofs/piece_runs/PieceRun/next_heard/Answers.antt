@@ -1,9 +1,10 @@
-use Rattle.std.proofs.Common.{◌≡◌, ◌+◌, ◌++◌, ◌∷◌, [], ◌∙◌, length, take, sym, ap, subst, arith}
+use Rattle.std.proofs.Common.{◌≡◌, ◌+◌, ◌++◌, ◌∷◌, [], ◌∙◌, length, sym, ap, subst, arith}
 use Rattle.std.proofs.lemmas.List.{length_push}
 use Rattle.air_history.specs.Boards.{board_of}
 use Rattle.air_model.specs.Decks.{values_in}
 use Rattle.air_sender.specs.AiredBytes.{aired_bytes}
 use Rattle.listeners.specs.Hearings.{AreTogether}
+use Rattle.scripts.specs.PieceRuns.{FitsGroups}
 use Rattle.scripts.specs.Private.RunSteps.{CountsScripted}
 use Rattle.air_sender.proofs.TapeLemmas.{script_airs}
 use Rattle.scripts.proofs.HeardLemmas.{begins_airing, begins_few, next_begun}
@@ -37,6 +38,9 @@ hear-requires-clause-few c =
 pub hear-requires-clause-room : goal.hear-requires-clause-room
 hear-requires-clause-room c = ap (λ v. length v.items) c.in_ok-event.ensures.room ∙ c.requires.kept.room
 
+pub hear-requires-clause-groups : goal.hear-requires-clause-groups
+hear-requires-clause-groups c = subst (FitsGroups c.args.planned.now) (sym c.in_ok-event.ensures.groups) c.requires.kept.groups
+
 pub hear-requires-clause-heard : goal.hear-requires-clause-heard
 hear-requires-clause-heard c =
     subst (λ v. AreTogether c.args.planned.now (aired_bytes c.args.planned.now v.items) c.args.listeners.items) (sym c.in_ok-event.ensures.events) c.requires.heard
@@ -48,9 +52,9 @@ returns-clause-kept c =
     let e = c.in_ok-event.event in
     let ran = c.in_ok-event.ensures in
     let grew : c.push.new.self.items ≡ s.events.items ++ e ∷ [] = c.in_ok-push.ensures.items ∙ ap (λ v. v.items ++ e ∷ []) (c.in_ok-listeners.ensures.events ∙ ran.events) in
-    piece_next deck s (record { events = c.push.new.self; made = c.hear.new.self.made; board = c.hear.new.self.board; room = c.hear.new.self.room }) e c.requires.kept c.requires.more
+    piece_next deck s (record { events = c.push.new.self; made = c.hear.new.self.made; board = c.hear.new.self.board; groups = c.hear.new.self.groups; room = c.hear.new.self.room }) e c.requires.kept c.requires.more
     ran.event grew (c.in_ok-listeners.ensures.board ∙ ran.board) (ap (λ v. length v.items) c.in_ok-listeners.ensures.made ∙ ran.updaters)
-    (subst (λ v. CountsScripted deck (length s.events.items + 1) v.items) (sym c.in_ok-listeners.ensures.made) ran.made) c.in_ok-listeners.ensures.room
+    (subst (λ v. CountsScripted deck (length s.events.items + 1) v.items) (sym c.in_ok-listeners.ensures.made) ran.made) c.in_ok-listeners.ensures.groups c.in_ok-listeners.ensures.room
 
 pub returns-clause-one : goal.returns-clause-one
 returns-clause-one c =

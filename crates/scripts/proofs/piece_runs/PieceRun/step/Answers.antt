@@ -4,6 +4,7 @@ use Rattle.air_history.specs.Boards.{board_of}
 use Rattle.air_history.specs.Histories.{starts}
 use Rattle.air_model.specs.Decks.{values_in}
 use Rattle.air_sender.specs.AiredBytes.{aired_bytes}
+use Rattle.scripts.specs.PieceRuns.{FitsGroups}
 use Rattle.scripts.specs.Private.RunSteps.{CountsScripted}
 use Rattle.air_sender.proofs.AiredLemmas.{starts_more}
 use Rattle.scripts.proofs.PieceLemmas.{piece_next}
@@ -16,6 +17,9 @@ air-requires-clause-stepped c =
 pub air-requires-clause-room : goal.air-requires-clause-room
 air-requires-clause-room c = ap (λ v. length v.items) c.in_ok-event.ensures.room ∙ c.requires.kept.room
 
+pub air-requires-clause-groups : goal.air-requires-clause-groups
+air-requires-clause-groups c = subst (FitsGroups c.args.planned.now) (sym c.in_ok-event.ensures.groups) c.requires.kept.groups
+
 pub returns-clause-kept : goal.returns-clause-kept
 returns-clause-kept c =
     let deck = c.args.planned.now in
@@ -23,9 +27,9 @@ returns-clause-kept c =
     let e = c.in_ok-event.event in
     let ran = c.in_ok-event.ensures in
     let grew : c.push.new.self.items ≡ s.events.items ++ e ∷ [] = c.in_ok-push.ensures.items ∙ ap (λ v. v.items ++ e ∷ []) (c.in_ok-air.ensures.events ∙ ran.events) in
-    piece_next deck s (record { events = c.push.new.self; made = c.air.new.self.made; board = c.air.new.self.board; room = c.air.new.self.room }) e c.requires.kept c.requires.more
+    piece_next deck s (record { events = c.push.new.self; made = c.air.new.self.made; board = c.air.new.self.board; groups = c.air.new.self.groups; room = c.air.new.self.room }) e c.requires.kept c.requires.more
     ran.event grew (c.in_ok-air.ensures.board ∙ ran.board) (ap (λ v. length v.items) c.in_ok-air.ensures.made ∙ ran.updaters)
-    (subst (λ v. CountsScripted deck (length s.events.items + 1) v.items) (sym c.in_ok-air.ensures.made) ran.made) c.in_ok-air.ensures.room
+    (subst (λ v. CountsScripted deck (length s.events.items + 1) v.items) (sym c.in_ok-air.ensures.made) ran.made) c.in_ok-air.ensures.groups c.in_ok-air.ensures.room
 
 pub returns-clause-cycle : goal.returns-clause-cycle
 returns-clause-cycle c =

@@ -30,11 +30,11 @@ returns-clause-text c =
     let told = ap (λ (p : EditionDisks). p.disks) c.program-program.ensures.told in
     let d = c.args.d in
     let e = c.args.edition in
-    let old = written_text c.args.wtr in
-    let new = written_text c.in_ok-wtr.wtr in
+    let old = written_text c.args.wtr.now in
+    let new = written_text c.add_numbers.new.wtr in
     let own = subst (λ (deck : Deck). IfSome (slice_get (specs_in deck e) d) (λ disk. c.disk_freq.result ≡ disk.freq)) c.deck.ensures.told c.disk_freq.ensures in
     let freq : IfSome (slice_get disks d) (λ disk. c.disk_freq.result ≡ disk.freq) =
     subst (λ p. IfSome (slice_get p d) (λ disk. c.disk_freq.result ≡ disk.freq)) (sym told) (freq_of_disk c.args.planned.now e d c.disk_freq.result own) in
     subst (λ p. IfSome (slice_get p d) (λ disk. new ≡ old ++ row_text row_writer (disk_row (num_minors p) (d, disk)))) told
     (disk_text (slice_get disks d) (num_minors disks) d c.disk_freq.result c.chunks.result c.chunk_len.result old new
-    freq c.chunks.ensures c.chunk_len.ensures (rw (c.from.ensures, c.from-2.ensures, c.from-3.ensures, c.from-4.ensures) at c.in_ok-wtr.ensures.text))
+    freq c.chunks.ensures c.chunk_len.ensures (rw (c.from.ensures, c.from-2.ensures, c.from-3.ensures, c.from-4.ensures) at c.in_ok-add_numbers.ensures.text))

@@ -11,7 +11,7 @@ use Rattle.air_cli.proofs.PlanLemmas.{all_rows, disks_more}
 use Rattle.air_cli.proofs.commands.plan.rows.put_disks.Goals as goal
 
 pub loop-d-init : goal.loop-d-init
-loop-d-init c = (c.requires.ready, rows_none (written_text c.args.wtr))
+loop-d-init c = (c.requires.ready, rows_none (written_text c.args.wtr.now))
 
 pub disk_count-d-end-requires : goal.disk_count-d-end-requires
 disk_count-d-end-requires c = omega (arith, ap (λ (d : Deck). length d.replans) c.deck-deck.ensures.told, c.requires.edition)
@@ -22,13 +22,13 @@ put_disk-requires-clause-disk c = omega (arith, ap (λ (d : Deck). length (specs
 pub loop-d-preserved : goal.loop-d-preserved
 loop-d-preserved c =
     let disks = disks_in c.args.planned.now c.args.edition in (
-      c.in_ok-wtr.ensures.ready,
-      disks_more (num_minors disks) disks c.loop-d.d (written_text c.args.wtr) (written_text c.loop-d.wtr) (written_text c.in_ok-wtr.wtr)
-          (omega (arith, length_disks_in c.args.planned.now c.args.edition, ap (λ (d : Deck). length (specs_in d c.args.edition)) c.deck-deck.ensures.told, c.disk_count-d-end.ensures)) c.loop-d.invariant.1 c.in_ok-wtr.ensures.text,
+      c.in_ok-put_disk.ensures.ready,
+      disks_more (num_minors disks) disks c.loop-d.d (written_text c.args.wtr.now) (written_text c.loop-d.wtr) (written_text c.put_disk.new.wtr)
+          (omega (arith, length_disks_in c.args.planned.now c.args.edition, ap (λ (d : Deck). length (specs_in d c.args.edition)) c.deck-deck.ensures.told, c.disk_count-d-end.ensures)) c.loop-d.invariant.1 c.in_ok-put_disk.ensures.text,
     )
 
 pub returns-clause-text : goal.returns-clause-text
 returns-clause-text c =
     let disks = disks_in c.args.planned.now c.args.edition in
-    all_rows (disk_row (num_minors disks)) (enumerate_from 0 disks) c.loop-d.d (written_text c.args.wtr) (written_text c.loop-d.wtr)
+    all_rows (disk_row (num_minors disks)) (enumerate_from 0 disks) c.loop-d.d (written_text c.args.wtr.now) (written_text c.loop-d.wtr)
     (omega (arith, length-enumerate_from 0 disks, length_disks_in c.args.planned.now c.args.edition, ap (λ (d : Deck). length (specs_in d c.args.edition)) c.deck-deck.ensures.told, c.disk_count-d-end.ensures)) c.loop-d.invariant.1

@@ -14,8 +14,8 @@ pub returns-clause-text : goal.returns-clause-text
 returns-clause-text c =
     let d = c.args.planned.now in
     let told = ap (λ (p : EditionDisks). p.disks) c.program-program.ensures.told in
-    let before = written_text c.args.wtr in
-    let disks = written_text c.in_ok-disks.disks in
-    edition_is (disks_in d c.args.edition) (rates_in d) before (written_text c.in_ok-headed.headed) disks (written_text c.in_ok-minors.minors) (written_text c.in_ok-whole.whole)
-    (c.in_ok-headed.ensures.text ∙ ap (λ p. before ++ row_text row_writer (program_row p)) told)
-    c.in_ok-disks.ensures.text (c.in_ok-minors.ensures.text ∙ ap (λ p. disks ++ rows_text (map (minor_row p) (range_with_len 0 (num_minors p)))) told) c.in_ok-whole.ensures.text
+    let before = written_text c.args.wtr.now in
+    let disks = written_text c.put_disks.new.wtr in
+    edition_is (disks_in d c.args.edition) (rates_in d) before (written_text c.put_program.new.wtr) disks (written_text c.put_minors.new.wtr) (written_text c.put_items.new.wtr)
+    (c.in_ok-put_program.ensures.text ∙ ap (λ p. before ++ row_text row_writer (program_row p)) told)
+    c.in_ok-put_disks.ensures.text (c.in_ok-put_minors.ensures.text ∙ ap (λ p. disks ++ rows_text (map (minor_row p) (range_with_len 0 (num_minors p)))) told) c.in_ok-put_items.ensures.text

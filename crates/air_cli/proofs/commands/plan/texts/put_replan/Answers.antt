@@ -15,5 +15,5 @@ returns-clause-text c =
     let cycle = c.cycle.result in
     let own = subst (λ o. IfSome o (λ (r : Replan). cycle ≡ r.cycle)) (sym c.replan.ensures) c.cycle.ensures.told in
     let told = subst (λ (deck : Deck). IfSome (slice_get deck.replans k) (λ r. cycle ≡ r.cycle)) c.deck-deck.ensures.told own in
-    replan_is c.args.planned.now k cycle (written_text c.args.wtr) (written_text c.in_ok-headed.headed) (written_text c.in_ok-whole.whole) told c.requires.replan
-    (rw (c.from.ensures, c.from-2.ensures) at c.in_ok-headed.ensures.text) c.in_ok-whole.ensures.text
+    replan_is c.args.planned.now k cycle (written_text c.args.wtr.now) (written_text c.add_numbers.new.wtr) (written_text c.put_edition.new.wtr) told c.requires.replan
+    (rw (c.from.ensures, c.from-2.ensures) at c.in_ok-add_numbers.ensures.text) c.in_ok-put_edition.ensures.text

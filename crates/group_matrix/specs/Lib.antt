@@ -1,0 +1,2 @@
+pub mod GroupBoards
+pub mod GroupFields

@@ -1,7 +1,0 @@
-use Rattle.std.proofs.Common.{◌≡◌, ◌<◌, ℕ, true, get_or, take}
-use Rattle.air_history.specs.ClashLaws.{passes}
-use Rattle.live_replay.specs.Findings.{places_of, read_in_cycle}
-use Rattle.live_replay.proofs.policies.each_passes.Given as goal
-
-abbrev pub invariant-loop-k : goal.invariant-loop-k
-invariant-loop-k l = (j : ℕ) → j < l.k → passes l.replay.deck.settings.policy l.replay.history (take j (places_of l.reads)) (get_or (places_of l.reads) j (read_in_cycle 0 0)) ≡ true

@@ -1,0 +1,111 @@
+-- What a deck airs a cycle from: the board, or the board by groups if the deck has groups.
+-- The calls of `cycle_sources`, and those of `piece_runs` that air or hear, cite these.
+use Rattle.std.proofs.Common.{◌≡◌, ℕ, ◌<◌, ◌≤◌, Bool, true, false, cond, Option, Some, None, List, [], ◌∷◌, ◌++◌, length, refl, sym, ◌∙◌, ap, subst, inl, inr, arith}
+use Rattle.std.proofs.lemmas.Bool.{lt-ltb, ltb-true}
+use Rattle.air_base.specs.declared.verdicts.Policy.{Policy}
+use Rattle.air_base.specs.declared.verdicts.Policy.TheVariants.{FMatrix, Datacycle, RMatrix}
+use Rattle.air_history.specs.declared.histories.Event.{Event}
+use Rattle.air_history.specs.declared.histories.Event.TheVariants.{Start}
+use Rattle.air_history.specs.Histories.{is_start}
+use Rattle.air_history.specs.Columns.{Scheme, airs_groups, has_groups}
+use Rattle.air_history.specs.Boards.{Board, board_of}
+use Rattle.air_model.specs.Aired.{scheme_in}
+use Rattle.air_model.specs.Decks.{Deck, IsDeck, values_in}
+use Rattle.air_sender.specs.BoardBuckets.{EntriesBelow, aired_board, spread}
+use Rattle.air_sender.proofs.AiredLemmas.{board_started, plain_board, started_board, values_kept}
+use Rattle.group_matrix.specs.GroupBoards.{GroupBoard, grouped}
+use Rattle.scripts.specs.PieceRuns.{FitsGroups}
+use Rattle.scripts.specs.Private.RunSteps.{AirsAfter}
+
+-- ---- what a scheme airs from
+
+-- What holds of each choice holds of what is chosen.
+chosen : {X : Type 0} (P : X → Type 0) (b : Bool) (x y : X) → (b ≡ true → P x) → P y → P (cond b x y)
+chosen P true x y if_so otherwise = if_so refl
+chosen P false x y if_so otherwise = otherwise
+
+-- It has the board's cycle and its values.
+aired_cycle : (scheme : Scheme) (board : Board) → (aired_board scheme board).cycle ≡ board.cycle
+aired_cycle scheme board = chosen (λ (b : Board). b.cycle ≡ board.cycle) (has_groups scheme) (spread (grouped scheme.group board)) board (λ groups. refl) refl
+
+aired_values : (scheme : Scheme) (board : Board) → length (aired_board scheme board).values ≡ length board.values
+aired_values scheme board = chosen (λ (b : Board). length b.values ≡ length board.values) (has_groups scheme) (spread (grouped scheme.group board)) board (λ groups. refl) refl
+
+-- Groups have items.
+some_group : (p : Policy) (g : ℕ) → airs_groups p g ≡ true → 0 < g
+some_group FMatrix g e = ltb-true 0 g e
+some_group Datacycle g e = cc
+some_group RMatrix g e = cc
+
+-- The statements of `below_law` and `groups_below_law`.
+abbrev pub BelowLaw : Type 0
+BelowLaw = (values : List ℕ) (G : List Event) → EntriesBelow (board_of values (G ++ Start ∷ []))
+
+abbrev pub GroupsBelowLaw : Type 0
+GroupsBelowLaw = (g : ℕ) (values : List ℕ) (G : List Event) → 0 < g → EntriesBelow (spread (grouped g (board_of values (G ++ Start ∷ []))))
+
+-- ---- a deck's cycle
+
+module _ (deck : Deck) (G : List Event) (source : Board) (from : AirsAfter deck G source) where
+  abbrev pub board_after : Board
+  board_after = board_of (values_in deck) (G ++ Start ∷ [])
+
+  pub source_cycle : source.cycle ≡ board_after.cycle
+  source_cycle = ap (λ (b : Board). b.cycle) from ∙ aired_cycle (scheme_in deck) board_after
+
+  -- it has started
+  pub source_started : 1 ≤ source.cycle
+  unfolding is_start
+  source_started = let started = board_started deck G Start board_after refl refl in omega (arith, source_cycle, started)
+
+  -- there is a value for each item
+  pub source_values : length source.values ≡ length deck.items
+  source_values = ap (λ (b : Board). length b.values) from ∙ aired_values (scheme_in deck) board_after ∙ values_kept deck board_after (G ++ Start ∷ []) refl
+
+  -- and the entries are below the cycle
+  pub source_below : BelowLaw → GroupsBelowLaw → EntriesBelow source
+  source_below below groups_below =
+      let scheme = scheme_in deck in
+      subst EntriesBelow (sym from)
+      (chosen EntriesBelow (has_groups scheme) (spread (grouped scheme.group board_after)) board_after
+      (λ groups. groups_below scheme.group (values_in deck) G (some_group scheme.policy scheme.group groups)) (below (values_in deck) G))
+
+-- ---- the two sources
+
+-- A deck with groups has the policy that airs columns.
+grouped_policy : (deck : Deck) → IsDeck deck → 0 < deck.settings.group → deck.settings.policy ≡ FMatrix
+grouped_policy deck made some = elim made.grouped as (λ _. deck.settings.policy ≡ FMatrix) [
+  | inl columns ↦ columns
+  | inr none ↦ absurd (omega arith)
+]
+
+grouped_scheme : (p : Policy) (g : ℕ) → p ≡ FMatrix → 0 < g → airs_groups p g ≡ true
+grouped_scheme p g is some = ap (λ p. airs_groups p g) is ∙ lt-ltb 0 g some
+
+module _ (deck : Deck) (G : List Event) (e : Event) (board : Board) (is : board ≡ board_of (values_in deck) (G ++ e ∷ [])) (kept : Option GroupBoard) (has : FitsGroups deck kept) where
+  -- without groups the board itself is aired
+  pub plain_source : is_start e ≡ true → kept ≡ None → AirsAfter deck G board
+  plain_source start none = plain_board (scheme_in deck) board (subst (FitsGroups deck) none has) ∙ ap (aired_board (scheme_in deck)) (started_board deck G e board is start)
+
+  -- with groups there are as many items,
+  pub same_items : (before : GroupBoard) → kept ≡ Some before → length before.values ≡ length board.values
+  same_items before some = (subst (FitsGroups deck) some has).2 ∙ sym (values_kept deck board (G ++ e ∷ []) is)
+
+  -- and the board by groups is aired, filled from the board
+  pub group_source : (before now : GroupBoard) → IsDeck deck → is_start e ≡ true → kept ≡ Some before → now ≡ grouped before.group board → AirsAfter deck G (spread now)
+  group_source before now made start some filled =
+      let scheme = scheme_in deck in
+      let own = subst (FitsGroups deck) some has in
+      ap spread (filled ∙ ap (λ g. grouped g board) own.1)
+      ∙ ap (λ b. cond b (spread (grouped scheme.group board)) board) (sym (grouped_scheme deck.settings.policy deck.settings.group (grouped_policy deck made own.0) own.0))
+      ∙ ap (aired_board scheme) (started_board deck G e board is start)
+
+  -- by the policy that airs columns
+  pub group_policy : (before : GroupBoard) → IsDeck deck → kept ≡ Some before → deck.settings.policy ≡ FMatrix
+  group_policy before made some = grouped_policy deck made (subst (FitsGroups deck) some has).0
+
+  -- and is still as the deck wants it
+  pub still_grouped : (before now : GroupBoard) → kept ≡ Some before → now ≡ grouped before.group board → FitsGroups deck (Some now)
+  still_grouped before now some filled =
+      let own = subst (FitsGroups deck) some has in
+      (own.0, ap (λ (b : GroupBoard). b.group) filled ∙ own.1, ap (λ (b : GroupBoard). length b.values) filled ∙ values_kept deck board (G ++ e ∷ []) is)
