@@ -3,15 +3,15 @@ _airdisk() {
     local word=${COMP_WORDS[COMP_CWORD]} ending
     COMPREPLY=()
     if [ "$COMP_CWORD" -eq 1 ]; then
-        mapfile -t COMPREPLY < <(compgen -W 'plan split script tune seek drill audit run cast listen --help -h --version -V help --build' -- "$word")
+        mapfile -t COMPREPLY < <(compgen -W 'plan split script tune beam seek drill audit run cast listen --help -h --version -V help --build' -- "$word")
         return
     fi
     case ${COMP_WORDS[1]}.$COMP_CWORD in
-    plan.2 | split.2 | script.2 | tune.2 | audit.2 | run.2 | cast.2 | listen.2) ending=csv ;;
-    script.3 | tune.3 | seek.2 | run.3) ending=tape ;;
+    plan.2 | split.2 | script.2 | tune.2 | beam.2 | audit.2 | run.2 | cast.2 | listen.2) ending=csv ;;
+    script.3 | tune.3 | beam.3 | seek.2 | run.3) ending=tape ;;
     audit.3) ending= ;;
     help.2)
-        mapfile -t COMPREPLY < <(compgen -W 'plan split script tune seek drill audit run cast listen help' -- "$word")
+        mapfile -t COMPREPLY < <(compgen -W 'plan split script tune beam seek drill audit run cast listen help' -- "$word")
         return
         ;;
     *) return ;;

@@ -19,6 +19,9 @@ DECKS = [
     "query,1,2 0\nscript,3 s 0 s s\nset,cycles,2\nset,late,50\nset,hears,20\n",
     "set,version,2\nitem,0,10,2\nitem,1,20,1\nitem,2,30,1\ndisk,1,2\ndisk,2,1\nupdate,0,,0=11\nupdate,0,0,1=0+10\nreader,2,300,2\nquery,0,0 1\n"
     "query,0,2\nscript,s 0 s 0 s\nset,cycles,3\nset,loss,10\nset,late,20\n",
+    # five items in three groups
+    "item,0,10,2\nitem,1,20,1\nitem,2,30,1\nitem,3,40,3\nitem,4,50,1\ndisk,2,2\ndisk,3,1\nset,group,2\nupdate,0,,0=11\nupdate,0,0,3=0+10\nreader,1,9,2\nquery,0,0 1 4\n"
+    "query,0,2 3\nscript,s 0 s 0 s s\nset,cycles,3\nset,late,30\n",
     # as few items as make a search of `split` too long on one disk
     "".join(f"item,{item},{1000 + item},{item % 7}\n" for item in range(775)) + "disk,775,1\nset,version,2\nupdate,0,774,1=774-5\nreader,1,9,2\n"
     "query,0,774 1\nscript,0 s\nset,cycles,1\n",

@@ -173,7 +173,7 @@ def others(line, first):
             at, end = found[1]
             yield "case", line[:at] + f"(λ a. not ({line[at:end]} a))" + line[end:], "not"
     for found in re.finditer(r"if (.+?) then (.+?) else (.+)$", line):
-        if found.start() >= first:
+        if found.start() >= first and all(balance(part) == (0, 0) for part in found.groups()):
             yield "case", line[: found.start(2)] + found.group(3) + " else " + found.group(2), None
     pairs = list(re.finditer(r"(\w+) = ((?:[^;{}]|\{[^{}]*\})+)(?=;| \})", line))
     for one, other in zip(pairs, pairs[1:]):
