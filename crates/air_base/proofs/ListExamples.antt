@@ -1,5 +1,5 @@
 -- Lists of numbers as texts on small examples: what a text spells, where its first bad part begins, and the text of a list.
-use Rattle.std.specs.Prelude.{◌≡◌, [], ◌∷◌, Some, None, codes, refl}
+use Rattle.std.specs.Prelude.{◌≡◌, ℕ, [], ◌∷◌, Some, None, codes, refl}
 use Rattle.air_base.specs.Numbers.{number_of}
 use Rattle.air_base.specs.NumberLists.{all_some, bad_part_at, list_of, list_text}
 
@@ -71,3 +71,12 @@ part_alone = refl
 
 no_part : list_text [] ≡ []
 no_part = refl
+
+-- Two items that are there, and none at the second of three places.
+all_there : all_some {A = ℕ} (Some 1 ∷ Some 2 ∷ []) ≡ Some (1 ∷ 2 ∷ [])
+unfolding all_some
+all_there = refl
+
+one_missing : all_some {A = ℕ} (Some 1 ∷ None ∷ Some 3 ∷ []) ≡ None
+unfolding all_some
+one_missing = refl

@@ -35,7 +35,7 @@ use Rattle.deck_runs.specs.RunTruths.{TellsHistory}
 use Rattle.live_replay.specs.Audits.{findings}
 use Rattle.live_replay.specs.FindingLaws.{GivesLook, GivesVerdict}
 use Rattle.live_replay.specs.FindingTexts.{findings_text}
-use Rattle.live_replay.specs.Findings.{places_of}
+use Rattle.live_replay.specs.Findings.{places_read}
 use Rattle.air_cli.specs.Hearings.{heard_bytes}
 use Rattle.air_cli.specs.NamedDecks.{SpellsDeck}
 use Rattle.air_cli.specs.Words.{Request, AsksAudit, AsksCast, AsksListen, AsksRun, AsksScript, AsksTune}
@@ -54,7 +54,7 @@ NowPrints text before now = WhereTold before.told.printed (λ said. now.told.pri
 
 -- The reads on which a verdict was decided: those of its line, and after them the refused one if it is an abort or aged.
 abbrev pub judged_on : VerdictLine → List ReadAt
-judged_on line = decided_on line.verdict.kind (places_of line.reads)
+judged_on line = decided_on line.verdict.kind (places_read line.reads)
 
 -- The items of the query that a verdict is about.
 abbrev pub asked_query : Deck → VerdictLine → List ℕ
@@ -65,9 +65,9 @@ asked_query d line = get_or (get_or d.queries line.reader []) line.verdict.query
 -- decided are too far apart for the deck's version. Else it is an accept if and only if they are all of its query and are consistent, and an abort
 -- if and only if they aren't consistent.
 pub record IsRightVerdict (d : Deck) (H : List Event) (line : VerdictLine) : Type 0 where
-  pub consistent : IsConsistent H (places_of line.reads)
-  pub values : All BasesRead H → All (λ r. r.value ≡ table (values_of (values_in d)) (alone H (places_of line.reads)) r.item) line.reads
-  pub shared : SharesItsCycle d.settings.policy H (places_of line.reads)
+  pub consistent : IsConsistent H (places_read line.reads)
+  pub values : All BasesRead H → All (λ r. r.value ≡ table (values_of (values_in d)) (alone H (places_read line.reads)) r.item) line.reads
+  pub shared : SharesItsCycle d.settings.policy H (places_read line.reads)
   pub aged : d.settings.policy ≡ FMatrix → d.settings.group ≡ 0 → IsAged line.verdict.kind ↔ IsTrue (are_far d.settings.version (judged_on line))
   pub accepted : d.settings.policy ≡ FMatrix → d.settings.group ≡ 0 → (line.verdict.kind ≡ Accept)
       ↔ ((are_far d.settings.version (judged_on line) ≡ false) × (map (λ r. r.item) (judged_on line) ≡ asked_query d line) × IsConsistent H (judged_on line))

@@ -16,7 +16,7 @@ use item_catalog::MOST_DRILL_SIZE;
 pub const HELP: &str = "airdisk: data on air, proved
 
   airdisk plan DECK            print the broadcast program of a deck
-  airdisk split DECK           print the disk sizes of least expected wait, beside the deck's own
+  airdisk split DECK           print the disk sizes of least expected wait, and what the deck's own cost
   airdisk script DECK          run the script of a deck, and print the report of its readers
   airdisk script DECK TAPE     the same, and write what was aired to a tape
   airdisk tune DECK TAPE       let the readers of a deck hear a tape, and print their report
@@ -26,7 +26,7 @@ pub const HELP: &str = "airdisk: data on air, proved
   airdisk audit DECK REPORT    replay a report by its own history, and print which of its lines agree
   airdisk run DECK TAPE        run a deck on threads, print the report, and write the tape
   airdisk cast DECK PORT       run a deck on threads, send what is aired to a port of this machine, and print the history
-  airdisk listen DECK PORT     let the readers of a deck hear what comes to a port, and print their report
+  airdisk listen DECK PORT     let the readers of a deck hear what arrives at a port, and print their report
   airdisk --help, -h           print this text
   airdisk --version, -V        print the version
   airdisk help [COMMAND]       print this text, or its lines on a command

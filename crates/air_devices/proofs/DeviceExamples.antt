@@ -1,6 +1,6 @@
 -- What devices tell and count, on small contents: where each relation holds, and where it doesn't.
-use Rattle.std.proofs.Common.{◌≡◌, ◌<◌, ◌≤◌, ◌^◌, ◌-◌, ℕ, List, [], ◌∷◌, Option, Some, None, refl, inl, inr, ap, arith}
-use Rattle.std.specs.Prelude.{codes, length}
+use Rattle.std.proofs.Common.{◌≡◌, ◌<◌, ◌≤◌, ◌^◌, ◌-◌, ℕ, zero, suc, List, [], ◌∷◌, Option, Some, None, refl, inl, inr, ap, arith}
+use Rattle.std.specs.Prelude.{codes, get_or, length}
 use Rattle.air_devices.specs.Contents.{Contents, nothing_told}
 use Rattle.air_devices.specs.Counts.{Faults, KeepsCounts, NoCountFalls, Rose, one_count}
 use Rattle.air_devices.specs.Masts.{Changes, SentBuckets, fresh_mast, nothing_sent, with_buckets, with_end}
@@ -89,6 +89,18 @@ not_becomes = (λ h. cc, λ h. let same : codes "abc" ≡ codes "c" = cc in let 
 -- The first bytes of a text, after what was there.
 appends_part : AppendsBeginning (Some (codes "a")) (Some (codes "abc")) (codes "bcd")
 appends_part = (2, refl)
+
+-- Other bytes, or none of what was there, or contents that are no more told, aren't that.
+not_appends_part : (AppendsBeginning (Some (codes "a")) (Some (codes "acb")) (codes "bcd") → ⊥) × (AppendsBeginning (Some (codes "a")) (Some (codes "bc")) (codes "bcd") → ⊥)
+    × (AppendsBeginning (Some (codes "a")) None (codes "bcd") → ⊥)
+not_appends_part = (other_bytes, nothing_kept, λ h. h.1)
+  where
+    other_bytes : AppendsBeginning (Some (codes "a")) (Some (codes "acb")) (codes "bcd") → ⊥
+    other_bytes (zero, same) = cc
+    other_bytes (suc n, same) = let second : 99 ≡ 98 = ap (λ bytes. get_or bytes 1 0) same in omega (arith, second)
+
+    nothing_kept : AppendsBeginning (Some (codes "a")) (Some (codes "bc")) (codes "bcd") → ⊥
+    nothing_kept (n, same) = let first : 98 ≡ 97 = ap (λ bytes. get_or bytes 0 0) same in omega (arith, first)
 
 -- A file of five bytes is too large if three are the most, and is read up to its last byte.
 abbrev with_file : List ℕ → List ℕ → Contents

@@ -1,4 +1,4 @@
--- What an ether is after the bucket that `next` lent is given back.
+-- What an ether is after a bucket was given: after its place, or once the bucket that `next` lent is given back.
 use Rattle.std.specs.Prelude.{◌≡◌, ℕ, ◌+◌, ◌<◌, List, Option, IfNone, MatchOption, OnSome}
 use Rattle.std.specs.Borrow.{MutBor, Fml}
 use Rattle.std.specs.Io.BufRead.{Rests}
@@ -7,7 +7,7 @@ use Rattle.air_ether.specs.contracts.ether.Ether.{the_row}
 use Rattle.air_ether.specs.HeardSoFar.{Ether, IsEtherAfter, IsQuiet, left_of}
 
 -- The same ether: if a bucket was given, one member further; if none was given, quiet.
-pub record Gave (old : Ether) (result : Option (Bor (List ℕ))) (new : Ether) : Type 0 where
+pub record Gave {X : Type 0} (old : Ether) (result : Option X) (new : Ether) : Type 0 where
   pub most : new.most ≡ old.most
   pub odds : new.odds ≡ old.odds
   pub pushes : new.pushes ≡ old.pushes

@@ -28,4 +28,5 @@ pub mod PolicyLemmas
 pub mod AcceptedLemmas
 pub mod VectorLemmas
 pub mod AloneLemmas
+mod StepExamples
 mod WordExamples

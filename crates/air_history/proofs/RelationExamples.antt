@@ -23,7 +23,7 @@ use Rattle.air_history.proofs.HistoryExamples.{add_to, commit, chain_history}
 use Rattle.air_history.proofs.ClashExamples.{at, apart, one_written}
 
 -- Item 0 of cycle 1, then item 1 of cycle 2.
-abbrev first_then_next : List ReadAt
+abbrev pub first_then_next : List ReadAt
 first_then_next = at 0 1 ∷ at 1 2 ∷ []
 
 -- An update that reads item 0 and writes its value plus 1 to item 2.
@@ -47,6 +47,9 @@ pub record Updates : Type 0 where
   broken : KeepsRules (record { reads = []; writes = add_to 2 0 1 ∷ [] }) → ⊥
   -- items 0 and 2 are below 3
   update_fits : UpdateFits 3 two_from_zero
+  -- the written item 2 isn't below 2, nor is item 3 that another one reads below 3
+  written_too_high : UpdateFits 2 two_from_zero → ⊥
+  read_too_high : UpdateFits 3 (record { reads = 3 ∷ []; writes = add_to 2 0 1 ∷ [] }) → ⊥
   -- so are those of a commit of the update
   items_fit : ItemsFit 3 (commit 1 (0 ∷ []) (add_to 2 0 1))
   -- a start writes nothing
@@ -79,6 +82,8 @@ updates = record {
   kept = refl;
   broken = λ e. cc;
   update_fits = two_fits;
+  written_too_high = λ f. let low : 2 < 2 = f.writes 0 (add_to 2 0 1) (omega arith) in omega arith;
+  read_too_high = λ f. let low : 3 < 3 = f.reads 0 0 (omega arith) in omega arith;
   items_fit = two_fits;
   start_fits = tt;
   not_fits = λ f. let low : 2 < 2 = f.writes 0 (add_to 2 0 1) (omega arith) in omega arith;

@@ -25,5 +25,6 @@ pub mod SoonLemmas
 pub mod RightLemmas
 pub mod CountLemmas
 pub mod OnAirExamples
+mod StepExamples
 mod SeekExamples
 mod PlaceExamples

@@ -18,9 +18,9 @@ use Rattle.air_index.proofs.LengthLemmas.{bucket_short}
 
 -- ---- heads
 
-pub index_head_is : (len cycle minor count : List ℕ) (n c m : ℕ) → len ≡ big_bytes 4 (13 + 4 * n) → cycle ≡ big_bytes 4 c → minor ≡ big_bytes 2 m → count ≡ big_bytes 2 n
+pub index_head_is : (len cycle minor count : List ℕ) (n c m : ℕ) → len ≡ big_bytes 4 (13 + 4 * n) → cycle ≡ big_bytes 8 c → minor ≡ big_bytes 2 m → count ≡ big_bytes 2 n
     → slice_index_or len 0 0 ∷ slice_index_or len 1 0 ∷ slice_index_or len 2 0 ∷ slice_index_or len 3 0 ∷ 0 ∷ 0 ∷ 0 ∷ 0 ∷ 0
-    ∷ slice_index_or cycle 0 0 ∷ slice_index_or cycle 1 0 ∷ slice_index_or cycle 2 0 ∷ slice_index_or cycle 3 0
+    ∷ slice_index_or cycle 4 0 ∷ slice_index_or cycle 5 0 ∷ slice_index_or cycle 6 0 ∷ slice_index_or cycle 7 0
     ∷ slice_index_or minor 0 0 ∷ slice_index_or minor 1 0 ∷ slice_index_or count 0 0 ∷ slice_index_or count 1 0 ∷ [] ≡ index_head n c m
 unfolding index_head
 index_head_is len cycle minor count n c m l y i k = rw (l, y, i, k) refl

@@ -39,12 +39,12 @@ fn put_slots(slots: u32, buckets: &mut TapeReader<'_>, out: &mut Vec<u8>) -> Res
 fn put_cycle(
     plans: &Plans,
     n: u16,
-    cycle: u32,
+    cycle: u64,
     buckets: &mut TapeReader<'_>,
     out: &mut Vec<u8>,
 ) -> Result<(), NoMemory>
     requires items { HaveItems n plans.now.programs }
-    requires last { cycle + 1 < 2 ^ 32 }
+    requires last { cycle ≤ 2 ^ 33 }
     requires whole { buckets.old.cut ≡ None }
     requires enough { length (planned_slots plans.now cycle) ≤ length buckets.old.records }
     requires grammar { AreBuckets buckets.old.records }
@@ -53,8 +53,8 @@ fn put_cycle(
     ensures whole { OnOk result (buckets.new.cut ≡ None) }
     ensures begun { take (length out.old.items) out.new.items ≡ out.old.items }
 {
-    let program = plans.in_force(cycle);
-    let next = plans.in_force(cycle + 1);
+    let program = plans.in_force_by(cycle);
+    let next = plans.in_force_by(cycle + 1);
     let _slots = program.slots();
     let _next_slots = next.slots();
     for minor in 0..program.minors() {
@@ -68,13 +68,13 @@ fn put_cycle(
 fn put_cycles(
     plans: &Plans,
     n: u16,
-    first: u32,
-    cycles: u32,
+    first: u64,
+    cycles: u64,
     tape: &[u8],
     out: &mut Vec<u8>,
 ) -> Result<(), NoMemory>
     requires items { HaveItems n plans.now.programs }
-    requires last { first + cycles + 1 < 2 ^ 32 }
+    requires last { first + cycles ≤ 2 ^ 33 }
     requires whole { (tape_read tape.now).cut ≡ None }
     requires counted { length (tape_read tape.now).records ≡ slots_after plans.now first cycles }
     requires grammar { AreBuckets (tape_read tape.now).records }
@@ -99,7 +99,6 @@ pub fn beam_piece(
     out: &mut Vec<u8>,
 ) -> Result<(), NoMemory>
     requires items { HaveItems n plans.now.programs }
-    requires last { first + cycles + 1 < 2 ^ 32 }
     requires whole { (tape_read tape.now).cut ≡ None }
     requires counted { length (tape_read tape.now).records ≡ slots_after plans.now first cycles }
     requires grammar { AreBuckets (tape_read tape.now).records }
@@ -107,7 +106,7 @@ pub fn beam_piece(
     ensures kept { OnErr result (out.new.items ≡ out.old.items) }
 {
     let before = out.len();
-    let put = put_cycles(plans, n, first, cycles, tape, out);
+    let put = put_cycles(plans, n, u64::from(first), u64::from(cycles), tape, out);
     if put.is_err() {
         out.truncate(before);
     }
@@ -123,7 +122,6 @@ pub fn beam_tape(
     out: &mut Vec<u8>,
 ) -> Result<(), NoMemory>
     requires items { HaveItems n plans.now.programs }
-    requires last { cycles + 1 < 2 ^ 32 }
     requires whole { (tape_read tape.now).cut ≡ None }
     requires counted { length (tape_read tape.now).records ≡ slots_after plans.now 0 cycles }
     requires grammar { AreBuckets (tape_read tape.now).records }

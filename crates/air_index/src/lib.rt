@@ -26,5 +26,5 @@ pub use index_view::IndexView;
 pub use reading::indexed;
 pub use records::Indexed;
 pub use seeker::{Seeker, seek};
-pub use sizes::{beam_bytes, beamed_len};
+pub use sizes::beam_bytes;
 pub use sought::Sought;

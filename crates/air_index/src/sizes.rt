@@ -36,7 +36,7 @@ fn data_len(program: &Program, n: u16, version: u8) -> u64
 }
 
 /// The length in bytes of all records of one cycle of a program with n items, in this version.
-pub fn beamed_len(program: &Program, n: u16, version: u8) -> u64
+fn beamed_len(program: &Program, n: u16, version: u8) -> u64
     requires { length (all_items program.now.disks) ≡ n }
     ensures len { result ≡ marks_size version n (marks_of program.now.disks) }
     ensures few { result ≤ (LENGTH_BYTES + INDEX_HEAD + INDEX_ENTRY * MOST_ITEMS + (LENGTH_BYTES + DATA_HEAD + HEAD_BYTES + ENTRY_BYTES * MOST_ITEMS)) * MOST_SLOTS }

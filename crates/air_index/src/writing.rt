@@ -15,8 +15,8 @@ use crate::places::{DATA_HEAD, INDEX_ENTRY, INDEX_HEAD};
 use air_base::NoMemory;
 use chunk_program::Program;
 
-/// The bytes of an index record on a tape, before its entries.
-fn index_head(n: u16, cycle: u32, minor: u16) -> [u8; 17]
+/// The bytes of an index record on a tape, before its entries: of its cycle the lowest four.
+fn index_head(n: u16, cycle: u64, minor: u16) -> [u8; 17]
     ensures { result ≡ index_head n cycle minor }
 {
     let len = (INDEX_HEAD as u32 + INDEX_ENTRY as u32 * u32::from(n)).to_be_bytes();
@@ -24,7 +24,7 @@ fn index_head(n: u16, cycle: u32, minor: u16) -> [u8; 17]
     let minor = minor.to_be_bytes();
     let count = n.to_be_bytes();
     [
-        len[0], len[1], len[2], len[3], 0, 0, 0, 0, 0, cycle[0], cycle[1], cycle[2], cycle[3],
+        len[0], len[1], len[2], len[3], 0, 0, 0, 0, 0, cycle[4], cycle[5], cycle[6], cycle[7],
         minor[0], minor[1], count[0], count[1],
     ]
 }
@@ -46,7 +46,7 @@ pub(crate) fn put_index(
     program: &Program,
     next: &Program,
     n: u16,
-    cycle: u32,
+    cycle: u64,
     minor: u32,
     out: &mut Vec<u8>,
 ) -> Result<(), NoMemory>

@@ -73,14 +73,15 @@ run_with seen_last = record { history = history; batches = both_batches; glances
 is_run : IsRun two (run_with (line 2 32))
 is_run = record { whole = is_whole; glances = glances; looks = looks }
 
--- It is no run if the last look is of an earlier cycle, if an updater made nothing, or if a cycle is missing.
+-- It is no run if the last look is of an earlier cycle, if an updater made nothing, if a cycle is missing, or if the monitor never glanced.
 not_run : (IsRun two (run_with (line 1 31)) → ⊥) × (IsRun two (record (run_with (line 2 32)) { history = first ∷ Start ∷ Start ∷ [] }) → ⊥)
-    × (IsRun two (record (run_with (line 2 32)) { history = first ∷ second ∷ Start ∷ [] }) → ⊥)
+    × (IsRun two (record (run_with (line 2 32)) { history = first ∷ second ∷ Start ∷ [] }) → ⊥) × (IsRun two (record (run_with (line 2 32)) { glances = [] }) → ⊥)
 unfolding is_by is_start starts
 not_run = (
   λ h. not_looks.1 h.looks,
   λ h. let none : 0 ≡ 1 = h.whole.all 1 in omega (arith, none),
   λ h. let one : 1 ≡ 2 = h.whole.cycles in omega (arith, one),
+  λ h. let numbers = h.glances.numbers in cc numbers,
 )
 
 -- ---- what is aired

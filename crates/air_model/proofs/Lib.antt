@@ -59,6 +59,9 @@ pub mod BatchLemmas
 pub mod BeyondLemmas
 pub mod FrameLemmas
 pub mod ItemLemmas
+mod BucketPartExamples
+mod StepExamples
+mod SessionStepExamples
 mod RunExamples
 mod PartExamples
 mod RowExamples

@@ -118,6 +118,14 @@ not_looks = (
   λ h. let late : 1 ≡ 2 = h.last 0 (line 1 31) (omega arith) in omega arith,
 )
 
+-- A glance and a look have the total of their cycle.
+pub other_totals : (AreGlances two history (line 1 32 ∷ []) → ⊥) × (AreLooks two history (line 2 31 ∷ []) → ⊥)
+unfolding total_at front table value_after write_of value_on_base is_start starts
+other_totals = (
+  λ h. let total : 32 ≡ 31 = (h.each 0 (line 1 32) (omega arith)).total in omega (arith, total),
+  λ h. let total : 31 ≡ 32 = (h.each 0 (line 2 31) (omega arith)).total in omega (arith, total),
+)
+
 -- ---- by which batches it was aired
 
 each_ends : All EndsWithStart ((first ∷ Start ∷ []) ∷ (second ∷ Start ∷ []) ∷ [])

@@ -3,3 +3,4 @@ pub mod SmallCaches
 pub mod SmallPrograms
 pub mod SmallAirings
 pub mod SmallSplits
+pub mod SmallGroups

@@ -11,7 +11,7 @@ abbrev pub odds : ℕ → ℕ → ℕ → Odds
 odds loss again late = record { loss = loss; again = again; late = late }
 
 -- The ether of this seed and these odds was given these buckets, it gave this number of them, and the end was told or not.
-pub record HasGiven (seed : ℕ) (odds : Odds) (pushed : List (List ℕ)) (given : ℕ) (ended : Bool) (e : Ether) : Type 0 where
+pub record HasGivenBytes (seed : ℕ) (odds : Odds) (pushed : List (List ℕ)) (given : ℕ) (ended : Bool) (e : Ether) : Type 0 where
   pub odds_are : e.odds ≡ odds
   pub follows : IsEtherAfter seed 0 pushed given e
   pub told : e.ended ≡ ended

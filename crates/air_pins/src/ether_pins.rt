@@ -5,7 +5,7 @@
 
 ghost use Rattle.std.specs.Prelude.{◌≡◌, ◌≤◌, [], ◌∷◌, codes, true, false, IfOk, MatchOption};
 ghost use Rattle.air_ether.specs.HeardSoFar.{IsQuiet};
-ghost use Rattle.air_pins.specs.SmallEthers.{HasGiven, nine, odds};
+ghost use Rattle.air_pins.specs.SmallEthers.{HasGivenBytes, nine, odds};
 
 use air_base::NoMemory;
 use air_ether::Ether;
@@ -15,7 +15,7 @@ use std::alloc::Global;
 /// push later.
 /// Promise: the ether is its definition
 pub fn bucket_of_another_place(ether: &mut Ether) -> Option<&[u8]>
-    requires { HasGiven 12 (odds 0 0 100) (codes "a" ∷ codes "b" ∷ []) 0 false ether.old }
+    requires { HasGivenBytes 12 (odds 0 0 100) (codes "a" ∷ codes "b" ∷ []) 0 false ether.old }
     ensures { MatchOption result ⊥ (λ bytes. bytes.now ≡ codes "a") }
 {
     ether.next()
@@ -24,7 +24,7 @@ pub fn bucket_of_another_place(ether: &mut Ether) -> Option<&[u8]>
 /// The second of two copies comes right after the first.
 /// Promise: the ether is its definition
 pub fn copies_apart(ether: &mut Ether) -> Option<&[u8]>
-    requires { HasGiven 12 (odds 0 100 0) (codes "a" ∷ []) 1 false ether.old }
+    requires { HasGivenBytes 12 (odds 0 100 0) (codes "a" ∷ []) 1 false ether.old }
     ensures { MatchOption result ⊥ (λ bytes. bytes.now ≡ codes "a") }
 {
     ether.next()
@@ -33,7 +33,7 @@ pub fn copies_apart(ether: &mut Ether) -> Option<&[u8]>
 /// The first of nine pushes is heard eight pushes later, when the last one is made.
 /// Promise: the ether is its definition
 pub fn eight_rooms_for_nine(ether: &mut Ether) -> Option<&[u8]>
-    requires { HasGiven 1910 (odds 0 0 100) nine 0 false ether.old }
+    requires { HasGivenBytes 1910 (odds 0 0 100) nine 0 false ether.old }
     ensures { MatchOption result ⊥ (λ bytes. bytes.now ≡ codes "a") }
 {
     ether.next()
@@ -42,7 +42,7 @@ pub fn eight_rooms_for_nine(ether: &mut Ether) -> Option<&[u8]>
 /// What waits is heard after the end too.
 /// Promise: the ether is its definition
 pub fn end_drops_what_waits(ether: &mut Ether) -> Option<&[u8]>
-    requires { HasGiven 12 (odds 0 0 100) (codes "a" ∷ []) 0 true ether.old }
+    requires { HasGivenBytes 12 (odds 0 0 100) (codes "a" ∷ []) 0 true ether.old }
     ensures { MatchOption result ⊥ (λ bytes. bytes.now ≡ codes "a") }
 {
     ether.next()
@@ -51,7 +51,7 @@ pub fn end_drops_what_waits(ether: &mut Ether) -> Option<&[u8]>
 /// The first copy of the second push is heard.
 /// Promise: the ether is its definition
 pub fn first_copy_passed_over(ether: &mut Ether) -> Option<&[u8]>
-    requires { HasGiven 12 (odds 0 0 0) (codes "a" ∷ codes "b" ∷ []) 1 false ether.old }
+    requires { HasGivenBytes 12 (odds 0 0 0) (codes "a" ∷ codes "b" ∷ []) 1 false ether.old }
     ensures { MatchOption result ⊥ (λ bytes. bytes.now ≡ codes "b") }
 {
     ether.next()
@@ -60,7 +60,7 @@ pub fn first_copy_passed_over(ether: &mut Ether) -> Option<&[u8]>
 /// A push that is lost draws three words too. It also refuses that each push draws two.
 /// Promise: the ether is its definition
 pub fn lost_ones_draw_less(ether: &mut Ether, bytes: &[u8])
-    requires ether { HasGiven 12 (odds 100 0 0) [] 0 false ether.old }
+    requires ether { HasGivenBytes 12 (odds 100 0 0) [] 0 false ether.old }
     requires quiet { IsQuiet ether.old }
     requires room { 1 ≤ ether.old.most }
     requires bytes { bytes.now ≡ codes "a" }
@@ -72,7 +72,7 @@ pub fn lost_ones_draw_less(ether: &mut Ether, bytes: &[u8])
 /// A delayed push isn't due at its own place.
 /// Promise: the ether is its definition
 pub fn place_before_due_number(ether: &mut Ether) -> Option<&[u8]>
-    requires { HasGiven 12 (odds 0 0 100) (codes "a" ∷ []) 0 false ether.old }
+    requires { HasGivenBytes 12 (odds 0 0 100) (codes "a" ∷ []) 0 false ether.old }
     ensures { MatchOption result (Unit {0}) (λ _. ⊥) }
 {
     ether.next()

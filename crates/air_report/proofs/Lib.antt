@@ -27,9 +27,10 @@ pub mod KeptLines
 pub mod LegalLines
 pub mod SameHistories
 mod TextExamples
-mod HistoryRows
+pub mod HistoryRows
 mod LineExamples
 mod StatusExamples
 pub mod SpelledExamples
 mod PrintedExamples
+mod RuleExamples
 mod EndExamples

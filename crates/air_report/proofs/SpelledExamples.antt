@@ -93,6 +93,10 @@ is_report = record { spelled = spells_report; verdict_rows = refl; glance_rows =
 not_report : IsReportOf deck its_bytes (record read { look_rows = 3 ∷ [] }) → ⊥
 not_report h = let rows_are : 3 ∷ [] ≡ 4 ∷ [] = h.look_rows in let row : 3 ≡ 4 = ap (λ rs. get_or rs 0 0) rows_are in omega (arith, row)
 
+-- Nor do the bytes spell the report without its look, whose rows would be these.
+not_report_without : IsReportOf deck its_bytes (record read { report = record report { looks = [] }; look_rows = [] }) → ⊥
+not_report_without h = not_spelled h.spelled
+
 -- The second record has a look at a cycle that has not begun.
 by_bytes : HasLineFault deck (codes "start\nlook,0,2,30\n") 2 7
 unfolding HasLineFault line_kinds_at csv_on_literals spelled_read spelled_place spelled_item short_of number_of all_some

@@ -3,3 +3,4 @@ pub mod AirFaults
 pub mod BoardBuckets
 pub mod TapeSizes
 pub mod AiredBytes
+pub mod DeckGroups

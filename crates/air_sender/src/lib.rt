@@ -1,8 +1,9 @@
-//! The sender: one cycle of a broadcast program aired from a board, and a mast that gathers a tape.
+//! The sender: one cycle of a broadcast program aired from a board or from a board by groups, and a mast that gathers a tape.
 //!
 //! `airing` sends the bucket of each slot through any mast; the buckets sent are the history's of that cycle, for every history of which the board
-//! is. `tape_mast` keeps what is sent as a tape, and `script_tapes` computes beforehand how long the tape of a deck's script is. `forms` has the form
-//! of a deck's buckets. `board_laws` connects board, history and lengths.
+//! is. `sources` has what a cycle is aired from, and `slots` the loop that boards and boards by groups share. `tape_mast` keeps what is sent as a
+//! tape, and `script_tapes` computes beforehand how long the tape of a deck's script is. `forms` has the form of a deck's buckets. `board_laws`
+//! connects board, history and lengths.
 #![tactic(auto)]
 
 pub mod airing;
@@ -19,5 +20,5 @@ pub use board_laws::{below_law, groups_below_law, own_cycle_law};
 pub use forms::{bucket_room, own_form};
 pub use script_tapes::tape_len;
 pub use slots::{air_source, encode_source};
-pub use sources::Source;
+pub use sources::{Source, groups_of};
 pub use tape_mast::TapeMast;

@@ -1,15 +1,32 @@
-//! What a cycle is aired from: a board, or a board by groups.
+//! What a cycle is aired from: a board, or a board by groups if the deck has groups.
 
-ghost use Rattle.std.specs.Prelude.{◌≡◌, ◌≤◌, ◌<◌, length, get_or};
+ghost use Rattle.std.specs.Prelude.{◌≡◌, ◌≤◌, ◌<◌, IfOk, length, get_or};
 ghost use Rattle.air_base.specs.declared.limits.TheConstants.{MOST_VALUES};
 ghost use Rattle.air_base.specs.declared.verdicts.Policy.{Policy};
 ghost use Rattle.air_base.specs.declared.verdicts.Policy.TheVariants.{FMatrix};
 ghost use Rattle.air_history.specs.Boards.{Board};
 ghost use Rattle.air_sender.specs.BoardBuckets.{entries_on, spread};
+ghost use Rattle.air_sender.specs.DeckGroups.{HasGroups};
 
-use air_base::Policy;
+use air_base::{NoMemory, Policy};
+use chunk_program::Planned;
 use control_matrix::Board;
 use group_matrix::GroupBoard;
+use std::alloc::Global;
+
+/// A board by groups, not filled yet, for a deck with groups; nothing for a deck without.
+pub fn groups_of(alloc: Global, planned: &Planned) -> Result<Option<GroupBoard>, NoMemory>
+    ensures { IfOk result (HasGroups planned.now) }
+{
+    planned.shows_planned();
+    let deck = planned.deck();
+    let group = deck.settings().group;
+    if group == 0 {
+        return Ok(None);
+    }
+    let groups = GroupBoard::new(alloc, deck.items(), group)?;
+    Ok(Some(groups))
+}
 
 /// A cycle, and the value and the entries of each item in it.
 pub trait Source {

@@ -6,12 +6,14 @@
 
 mod audits;
 mod plans;
+mod silences;
 mod systems;
 
 use crate::notes::audits::audit_note;
 use crate::notes::plans::plan_note;
+use crate::notes::silences::deck_silence_note;
 use crate::notes::systems::{air_failure_note, failure_note};
-use crate::plain_files::{deck_again, plain_size, read_again, tape_again};
+use crate::plain_files::{plain_size, read_again, tape_again};
 use air_base::NoMemory;
 use air_base::limits::{MOST_DECK_BYTES, MOST_SLOTS, MOST_TAPE_BYTES};
 use air_cli::words::HELP;
@@ -19,13 +21,10 @@ use air_devices::{FileShelf, NetFailure};
 use air_report::Status;
 use air_report::reading::limits::MOST_REPORT_BYTES;
 use disk_split::MOST_SPLIT;
-use fault_notes::{ShownText, deck_note, silence_note, words_note};
+use fault_notes::{ShownText, deck_note, words_note};
 use item_catalog::DeckFault;
 use std::alloc::Global;
 use std::rt::Files;
-
-/// The greatest size of a deck that is read again after status 0, in bytes, so that this takes little time.
-const QUICK_BYTES: u64 = 1_000_000;
 
 /// The word at a place; empty if there is none.
 pub fn word(words: &[String], place: usize) -> &str {
@@ -115,32 +114,6 @@ fn length_note(alloc: Global, words: &[String], bytes: u64) -> Result<Option<Str
     Ok(Some(format!(in alloc;
         "{deck}: its {tape} would have {bytes} bytes, and a tape may have {MOST_TAPE_BYTES}"
     )?))
-}
-
-/// A note that the deck of a command with readers gives no verdict, or `None`; also `None` if the deck is large.
-fn deck_silence_note<R: Files + Print + Drop>(
-    rt: &R,
-    alloc: Global,
-    words: &[String],
-    shelf: &mut FileShelf<R>,
-) -> Result<Option<String>, NoMemory> {
-    let command = word(words, 0);
-    let by_script = command == "script";
-    if !by_script && command != "tune" && command != "run" && command != "listen" {
-        return Ok(None);
-    }
-    let name = word(words, 1);
-    let is_quick = match plain_size(rt, name) {
-        Some(size) => size <= QUICK_BYTES,
-        None => false,
-    };
-    if !is_quick {
-        return Ok(None);
-    }
-    match deck_again(rt, alloc, shelf, name) {
-        Some(deck) => silence_note(alloc, name, &deck, by_script),
-        None => Ok(None),
-    }
 }
 
 /// A note on a deck for which no best split is given, or `None` for another status.

@@ -49,7 +49,7 @@ impl Planned {
     }
 
     /// The deck and its plans, lent.
-    fn lend(&self) -> PlannedRef<'_>
+    pub fn lend(&self) -> PlannedRef<'_>
         ensures { result ≡ self.now }
     {
         PlannedRef {

@@ -91,19 +91,27 @@ impl Plans {
         self.table.programs.len() as u32
     }
 
+    /// The edition of a cycle, whose number may be above the last that an air has.
+    fn edition_by(&self, cycle: u64) -> u32
+        ensures told { result ≡ planned_edition self.now cycle }
+        ensures within { result < length self.now.programs }
+    {
+        let mut edition = 0u32;
+        for at in &self.table.cycles {
+            if u64::from(*at) <= cycle {
+                edition += 1;
+            }
+        }
+        edition
+    }
+
     /// The edition of a cycle: the number of replans that are in force by then.
     pub fn edition_at(&self, cycle: u32) -> u32
         ensures told { result ≡ planned_edition self.now cycle }
         ensures deck { (deck : ModelDeck) → self.now ≡ plans_in deck → result ≡ edition deck cycle }
         ensures within { result < length self.now.programs }
     {
-        let mut edition = 0u32;
-        for at in &self.table.cycles {
-            if *at <= cycle {
-                edition += 1;
-            }
-        }
-        edition
+        self.edition_by(u64::from(cycle))
     }
 
     /// Whether an edition is the one in force in a cycle. It costs two comparisons, regardless of the number of replans.
@@ -147,6 +155,14 @@ impl Plans {
         ensures items { (n : ℕ) → HaveItems n self.now.programs → length (all_items result.now.disks) ≡ n }
     {
         self.program(self.edition_at(cycle))
+    }
+
+    /// The program in force in a cycle, whose number may be above the last that an air has: what follows the last cycle is told, too.
+    pub fn in_force_by(&self, cycle: u64) -> &Program
+        ensures told { slice_get self.now.programs (planned_edition self.now cycle) ≡ Some result.now }
+        ensures items { (n : ℕ) → HaveItems n self.now.programs → length (all_items result.now.disks) ≡ n }
+    {
+        self.program(self.edition_by(cycle))
     }
 
     /// The PIX number of each item in an edition.

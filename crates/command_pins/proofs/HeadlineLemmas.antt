@@ -27,7 +27,7 @@ use Rattle.deck_runs.specs.Casts.{all_sent}
 use Rattle.air_sender.specs.AiredBytes.{aired_bytes}
 use Rattle.item_catalog.specs.Grammar.{Spells}
 use Rattle.item_catalog.proofs.GrammarLemmas.{one_deck}
-use Rattle.live_replay.specs.Findings.{places_of}
+use Rattle.live_replay.specs.Findings.{places_read}
 use Rattle.air_cli.specs.Headline.{CastStands, IsHeardReport, ListenStands, RunStands, TuneStands}
 use Rattle.air_cli.specs.Hearings.{heard_bytes}
 use Rattle.command_pins.specs.SmallDecks.{short_deck}
@@ -42,7 +42,7 @@ printed_alone said text now empty h = let none : said ≡ [] = cc in h ∙ ap (�
 
 pub run_left : (old new : MemShelf) → (told_by old).printed ≡ Some [] → RunStands (codes "d") (codes "t") (shelved_of old) (shelved_of new)
     → (d : Deck) × (report : Report) × Spells (deck_file old) d × IsWhole d report.history × ((told_by new).output (codes "t") ≡ Some (run_tape d report.history))
-    × ((told_by new).printed ≡ Some (report_text report)) × All (λ line. IsConsistent report.history (places_of line.reads)) report.verdicts
+    × ((told_by new).printed ≡ Some (report_text report)) × All (λ line. IsConsistent report.history (places_read line.reads)) report.verdicts
 run_left old new empty h = (
   h.d,
   h.report,

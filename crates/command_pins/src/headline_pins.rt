@@ -13,7 +13,7 @@ ghost use Rattle.air_devices.specs.MemoryMasts.{told_by_mast as sent_by};
 ghost use Rattle.deck_runs.specs.Casts.{all_sent};
 ghost use Rattle.air_sender.specs.AiredBytes.{aired_bytes};
 ghost use Rattle.item_catalog.specs.Grammar.{Spells};
-ghost use Rattle.live_replay.specs.Findings.{places_of};
+ghost use Rattle.live_replay.specs.Findings.{places_read};
 ghost use Rattle.command_pins.specs.SmallDecks.{short_deck};
 
 use air_cli::air_main;
@@ -43,7 +43,7 @@ pub fn inconsistent_reads_printed<R: Threads + Wait + Sync, G: Gate + Sync>(
     requires printed { (told_by shelf.old).printed ≡ Some [] }
     ensures { result ≡ Status.Ok → (d : Deck) × (report : Report) × Spells (file_bytes (file_named (codes "d") shelf.old.files.items)) d × IsWhole d report.history
         × ((told_by shelf.new).output (codes "t") ≡ Some (run_tape d report.history)) × ((told_by shelf.new).printed ≡ Some (report_text report))
-        × All (λ line. IsConsistent report.history (places_of line.reads)) report.verdicts }
+        × All (λ line. IsConsistent report.history (places_read line.reads)) report.verdicts }
 {
     air_main(rt, alloc, words, shelf, mast, ear, gate)
 }

@@ -1,5 +1,5 @@
 -- What is aired from a board by groups, and whether a deck has groups.
-use Rattle.std.proofs.Common.{◌≡◌, ℕ, ◌<◌, true, cond, Option, Some, None, inl, inr, length, sym, ap, ◌∙◌, arith}
+use Rattle.std.proofs.Common.{◌≡◌, ℕ, ◌<◌, true, cond, Some, inl, inr, length, sym, ap, ◌∙◌, arith}
 use Rattle.std.proofs.lemmas.Bool.{lt-ltb}
 use Rattle.air_base.specs.declared.verdicts.Policy.{Policy}
 use Rattle.air_base.specs.declared.verdicts.Policy.TheVariants.{FMatrix, Datacycle, RMatrix}
@@ -10,8 +10,7 @@ use Rattle.air_model.specs.Aired.{air_of}
 use Rattle.air_model.specs.Decks.{Deck, IsDeck}
 use Rattle.group_matrix.specs.GroupBoards.{GroupBoard, grouped}
 use Rattle.air_sender.specs.BoardBuckets.{aired_board, form_of, spread}
-use Rattle.deck_runs.specs.Private.Airings.{SuitAny, size_of_groups}
-use Rattle.deck_runs.specs.Private.Crews.{HasGroups}
+use Rattle.air_sender.specs.DeckGroups.{HasGroups}
 
 airs_by : (p : Policy) (g : ℕ) → p ≡ FMatrix → 0 < g → airs_groups p g ≡ true
 airs_by FMatrix g is pos = lt-ltb 0 g pos
@@ -26,13 +25,8 @@ group_board scheme board g policy same pos =
 
 -- ---- the groups of a deck
 
-pub group_size : (deck : Deck) (groups : Option GroupBoard) → HasGroups deck groups → deck.settings.group ≡ size_of_groups groups
-group_size deck None has = has
-group_size deck (Some groups) has = sym has.0
-
--- A deck's groups suit its form, since only a deck under F-Matrix has groups.
-pub groups_suit : (deck : Deck) (groups : Option GroupBoard) (form : Form) (n : ℕ) → IsDeck deck → form ≡ form_of (air_of deck) → n ≡ length deck.items → HasGroups deck groups → SuitAny groups n form
-groups_suit deck None form n made own sized has = tt
-groups_suit deck (Some groups) form n made own sized has =
+-- A deck's groups are aired in its form, since only a deck under F-Matrix has groups.
+pub groups_form : (deck : Deck) (groups : GroupBoard) (form : Form) → IsDeck deck → form ≡ form_of (air_of deck) → HasGroups deck (Some groups) → form.policy ≡ FMatrix
+groups_form deck groups form made own has =
     let policy : form.policy ≡ deck.settings.policy = ap (λ (f : Form). f.policy) own in
-    (has.2 ∙ sym sized, has.1, elim made.grouped as (λ _. form.policy ≡ FMatrix) [ inl is ↦ policy ∙ is | inr none ↦ absurd (let same = has.0 in let some = has.1 in omega arith) ])
+    elim made.grouped as (λ _. form.policy ≡ FMatrix) [ inl is ↦ policy ∙ is | inr none ↦ absurd (let some = has.0 in omega arith) ]

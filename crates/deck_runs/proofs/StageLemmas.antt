@@ -13,9 +13,10 @@ use Rattle.air_model.specs.Decks.{Deck, updates_by, values_in}
 use Rattle.air_model.specs.DeckLaws.{commits_from, made_by}
 use Rattle.bucket_codec.specs.declared.offsets.TheConstants.{HEAD_BYTES}
 use Rattle.station.specs.PassStates.{PassState, new_pass, numbers_of, with_seen}
+use Rattle.air_sender.specs.DeckGroups.{HasGroups}
 use Rattle.deck_runs.specs.declared.jobs.crews.ConductorRun.{ConductorRun}
 use Rattle.deck_runs.specs.declared.jobs.crews.UpdaterRun.{UpdaterRun}
-use Rattle.deck_runs.specs.Private.Crews.{CanConduct, EachDone, HasGroups, HasMadeUpdates, HasNewPass, passes_of}
+use Rattle.deck_runs.specs.Private.Crews.{CanConduct, EachDone, HasMadeUpdates, HasNewPass, passes_of}
 use Rattle.deck_runs.specs.PublishedBatches.{GoesOn}
 use Rattle.deck_runs.specs.Private.StageSteps.{AreNewUpdaters, HasEndedUpdates, HaveEnded, IsPlayed, IsUnplayed}
 use Rattle.deck_runs.specs.declared.threads.stages.Stage.{Stage}

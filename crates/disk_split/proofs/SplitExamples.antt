@@ -11,7 +11,7 @@ use Rattle.air_model.specs.Disks.{DiskSpec, cut, order, order_with}
 use Rattle.air_model.specs.Programs.{chunk_len, least_common_multiple, minor_len, num_chunks, num_minors}
 use Rattle.air_model.specs.Rows.{rows_text}
 use Rattle.disk_split.specs.SplitAnswers.{AreAllTooLong, search_size}
-use Rattle.disk_split.specs.Splits.{IsShortSplit, IsSplit, cost, is_before, minor_of, resized, slots_of, split_row, split_text}
+use Rattle.disk_split.specs.Splits.{IsBest, IsShortSplit, IsSplit, cost, is_before, minor_of, resized, slots_of, split_row, split_text}
 use Rattle.disk_split.specs.Numbers.{chunks_in, minors_in}
 use Rattle.disk_split.specs.Rests.{minor_from}
 use Rattle.disk_split.proofs.DeckLemmas.{deck_sums, slots_walk, split_rest}
@@ -60,6 +60,11 @@ pub three_splits_cost_least : map (numbers six) ((1 ∷ 5 ∷ []) ∷ (2 ∷ 4 �
 unfolding order order_with cut least_common_multiple num_minors num_chunks chunk_len minor_len disk_number chunks_of gap_of resized minor_of slots_of cost
 three_splits_cost_least = refl
 
+-- Each disk keeps its frequency; disks without a size are left out.
+pub other_sizes : (resized (spec 5 1 ∷ spec 1 2 ∷ []) (2 ∷ 4 ∷ []) ≡ spec 2 1 ∷ spec 4 2 ∷ []) × (resized (spec 5 1 ∷ spec 1 2 ∷ []) (6 ∷ []) ≡ spec 6 1 ∷ [])
+unfolding resized
+other_sizes = (refl, refl)
+
 -- The first number that differs decides which comes first, and no list comes before itself.
 pub first_difference_decides : is_before (1 ∷ 5 ∷ []) (2 ∷ 4 ∷ []) ∷ is_before (1 ∷ 6 ∷ 4 ∷ []) (1 ∷ 2 ∷ 8 ∷ []) ∷ is_before (1 ∷ 5 ∷ []) (1 ∷ 5 ∷ []) ∷ []
     ≡ true ∷ false ∷ false ∷ []
@@ -96,6 +101,40 @@ twenty_are_few = record {
 -- A split gives each disk an item.
 pub empty_disk_is_none : IsSplit eleven (0 ∷ 7 ∷ 4 ∷ []) → ⊥
 empty_disk_is_none split = let some = All-head (λ n. 1 ≤ n) 0 (7 ∷ 4 ∷ []) split.filled in omega arith
+
+-- ---- splits that aren't the best
+
+costs_of_eleven : (cost eleven (1 ∷ 6 ∷ 4 ∷ []) ≡ 145) × (cost eleven (1 ∷ 2 ∷ 8 ∷ []) ≡ 148)
+unfolding order order_with cut least_common_multiple num_minors num_chunks chunk_len minor_len disk_number chunks_of gap_of resized cost
+costs_of_eleven = (refl, refl)
+
+slots_of_six : slots_of six (1 ∷ 5 ∷ []) ≡ 12
+unfolding order order_with cut least_common_multiple num_minors num_chunks chunk_len minor_len resized minor_of slots_of
+slots_of_six = refl
+
+same_costs : cost six (1 ∷ 5 ∷ []) ≡ cost six (2 ∷ 4 ∷ [])
+unfolding order order_with cut least_common_multiple num_minors num_chunks chunk_len minor_len disk_number chunks_of gap_of resized cost
+same_costs = refl
+
+first_is_short : IsShortSplit six (1 ∷ 5 ∷ [])
+first_is_short = record {
+  split = record {
+    disks = refl;
+    filled = All-cons (λ n. 1 ≤ n) 1 (5 ∷ []) (omega arith) (All-cons (λ n. 1 ≤ n) 5 [] (omega arith) (All-nil (λ n. 1 ≤ n)));
+    all = refl;
+  };
+  short = omega (arith, slots_of_six);
+}
+
+-- The best split costs least, and of those that cost least it is the first; and it is a split.
+pub costs_more : IsBest eleven (1 ∷ 2 ∷ 8 ∷ []) → ⊥
+costs_more best = let least = best.least (1 ∷ 6 ∷ 4 ∷ []) twenty_are_few in omega (arith, least, costs_of_eleven.0, costs_of_eleven.1)
+
+pub comes_second : IsBest six (2 ∷ 4 ∷ []) → ⊥
+comes_second best = let first : true ≡ false = best.first (1 ∷ 5 ∷ []) first_is_short same_costs in cc
+
+pub has_no_item : IsBest eleven (0 ∷ 7 ∷ 4 ∷ []) → ⊥
+has_no_item best = empty_disk_is_none best.short.split
 
 -- Three items on three disks of frequencies 64, 63 and 61. Each split has a slot for each disk in each of 245,952 minor cycles.
 abbrev three : Deck

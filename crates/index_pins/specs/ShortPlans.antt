@@ -1,8 +1,10 @@
 -- Plans of a few items, and the plain tapes that are beamed by them.
-use Rattle.std.specs.Prelude.{ℕ, List, [], ◌∷◌, None}
+use Rattle.std.specs.Prelude.{ℕ, List, [], ◌∷◌, ◌++◌, None}
 use Rattle.air_model.specs.Disks.{Disk}
 use Rattle.air_model.specs.Tapes.{TapeRead}
 use Rattle.chunk_program.specs.Editions.{EditionDisks, Plans}
+use Rattle.air_index.specs.Indexes.{index_bytes}
+use Rattle.air_index.specs.Records.{data_bytes}
 use Rattle.index_pins.specs.ShortTapes.{first_item, second_item}
 
 -- A disk of these items, aired this often a cycle.
@@ -39,3 +41,14 @@ one_minor_cycle = first_item 1 ∷ second_item 1 ∷ []
 
 abbrev pub two_minor_cycles : List (List ℕ)
 two_minor_cycles = first_item 1 ∷ second_item 1 ∷ first_item 1 ∷ second_item 1 ∷ []
+
+-- The records of a minor cycle of two slots on the indexed tape: of this cycle and this number, with these entries.
+abbrev pub minor_beamed : ℕ → ℕ → List ℕ → List (List ℕ)
+minor_beamed cycle minor entries = index_bytes cycle minor entries ∷ data_bytes 2 (first_item 1) ∷ data_bytes 1 (second_item 1) ∷ []
+
+-- The records of a cycle of two disks, and those of the first cycle of two editions.
+abbrev pub disks_beamed : ℕ → List (List ℕ)
+disks_beamed cycle = minor_beamed cycle 0 (1 ∷ 2 ∷ []) ++ minor_beamed cycle 1 (1 ∷ 5 ∷ [])
+
+abbrev pub editions_beamed : List (List ℕ)
+editions_beamed = minor_beamed 1 0 (1 ∷ 2 ∷ 5 ∷ []) ++ minor_beamed 1 1 (1 ∷ 7 ∷ 2 ∷ [])

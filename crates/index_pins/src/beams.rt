@@ -2,10 +2,7 @@
 
 ghost use Rattle.std.specs.Prelude.{◌≡◌, ◌++◌, [], ◌∷◌, OnErr, OnOk};
 ghost use Rattle.air_model.specs.Tapes.{tape_of, tape_read};
-ghost use Rattle.air_index.specs.Indexes.{index_bytes};
-ghost use Rattle.air_index.specs.Records.{data_bytes};
-ghost use Rattle.index_pins.specs.ShortPlans.{one_minor_cycle, two_disks, two_editions, two_items, two_minor_cycles, whole};
-ghost use Rattle.index_pins.specs.ShortTapes.{first_item, second_item};
+ghost use Rattle.index_pins.specs.ShortPlans.{disks_beamed, editions_beamed, minor_beamed, one_minor_cycle, two_disks, two_editions, two_items, two_minor_cycles, whole};
 
 use air_base::NoMemory;
 use air_index::{beam_piece, beam_tape};
@@ -20,7 +17,7 @@ pub fn counted_from_the_record_after_the_index(
 ) -> Result<(), NoMemory>
     requires plans { plans.now ≡ two_items }
     requires tape { tape_read tape.now ≡ whole one_minor_cycle }
-    ensures { OnOk result (out.new.items ≡ out.old.items ++ tape_of (index_bytes 1 0 (1 ∷ 2 ∷ []) ∷ data_bytes 2 (first_item 1) ∷ data_bytes 1 (second_item 1) ∷ [])) }
+    ensures { OnOk result (out.new.items ≡ out.old.items ++ tape_of (minor_beamed 1 0 (1 ∷ 2 ∷ []))) }
 {
     beam_tape(plans, 2, 1, tape, out)
 }
@@ -34,9 +31,7 @@ pub fn one_index_for_every_minor_cycle(
 ) -> Result<(), NoMemory>
     requires plans { plans.now ≡ two_disks }
     requires tape { tape_read tape.now ≡ whole two_minor_cycles }
-    ensures { OnOk result (out.new.items ≡ out.old.items
-        ++ tape_of (index_bytes 1 0 (1 ∷ 2 ∷ []) ∷ data_bytes 2 (first_item 1) ∷ data_bytes 1 (second_item 1)
-        ∷ index_bytes 1 1 (1 ∷ 5 ∷ []) ∷ data_bytes 2 (first_item 1) ∷ data_bytes 1 (second_item 1) ∷ [])) }
+    ensures { OnOk result (out.new.items ≡ out.old.items ++ tape_of (disks_beamed 1)) }
 {
     beam_tape(plans, 2, 1, tape, out)
 }
@@ -50,9 +45,7 @@ pub fn wait_for_the_index_of_the_next_cycle(
 ) -> Result<(), NoMemory>
     requires plans { plans.now ≡ two_disks }
     requires tape { tape_read tape.now ≡ whole two_minor_cycles }
-    ensures { OnOk result (out.new.items ≡ out.old.items
-        ++ tape_of (index_bytes 4 0 (1 ∷ 2 ∷ []) ∷ data_bytes 2 (first_item 1) ∷ data_bytes 1 (second_item 1)
-        ∷ index_bytes 4 1 (1 ∷ 5 ∷ []) ∷ data_bytes 2 (first_item 1) ∷ data_bytes 1 (second_item 1) ∷ [])) }
+    ensures { OnOk result (out.new.items ≡ out.old.items ++ tape_of (disks_beamed 4)) }
 {
     beam_piece(plans, 2, 3, 1, tape, out)
 }
@@ -66,9 +59,7 @@ pub fn sought_by_the_program_of_its_own_cycle(
 ) -> Result<(), NoMemory>
     requires plans { plans.now ≡ two_editions }
     requires tape { tape_read tape.now ≡ whole two_minor_cycles }
-    ensures { OnOk result (out.new.items ≡ out.old.items
-        ++ tape_of (index_bytes 1 0 (1 ∷ 2 ∷ 5 ∷ []) ∷ data_bytes 2 (first_item 1) ∷ data_bytes 1 (second_item 1)
-        ∷ index_bytes 1 1 (1 ∷ 7 ∷ 2 ∷ []) ∷ data_bytes 2 (first_item 1) ∷ data_bytes 1 (second_item 1) ∷ [])) }
+    ensures { OnOk result (out.new.items ≡ out.old.items ++ tape_of editions_beamed) }
 {
     beam_tape(plans, 3, 1, tape, out)
 }

@@ -46,6 +46,7 @@ mod ScriptTests
 mod DeckTests
 mod SpelledDecks
 mod DrillTexts
+mod FieldExamples
 mod TextExamples
 mod DeclarationExamples
 mod TestExamples

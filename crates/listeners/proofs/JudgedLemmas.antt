@@ -1,7 +1,7 @@
 -- A piece that was judged once: what its notes say, and what a listener is after the members of a stretch that it doesn't want.
 -- The calls of `judged`, and `Listener::hear_from`, cite these.
-use Rattle.std.proofs.Common.{◌≡◌, ◌≢◌, ℕ, zero, suc, ◌+◌, ◌-◌, ◌<◌, ◌≤◌, max, Option, Some, None, Result, Ok, Err, List, [], ◌∷◌, ◌++◌, length, map, get_or, set, take, drop, All, refl, sym, ◌∙◌, ap, subst, inl, inr, arith}
-use Rattle.std.specs.Prelude.{IfSome, IsTrue}
+use Rattle.std.proofs.Common.{◌≡◌, ◌≢◌, ℕ, zero, suc, ◌+◌, ◌-◌, ◌<◌, ◌≤◌, max, Option, Some, None, Result, Ok, Err, List, [], ◌∷◌, ◌++◌, length, map, get_or, set, drop, refl, sym, ◌∙◌, ap, subst, inl, inr, arith}
+use Rattle.std.specs.Prelude.{IfSome}
 use Rattle.std.specs.List.{range_with_len, slice_range}
 use Rattle.std.specs.Result.{result_ok}
 use Rattle.std.proofs.lemmas.Bool.{cases_lt}
@@ -10,7 +10,7 @@ use Rattle.std.proofs.lemmas.List.FromFn.{get_or-map-range_with_len, length-map-
 use Rattle.std.proofs.lemmas.Simd.{map-map}
 use Rattle.air_model.specs.declared.bucket.BucketFault.{BucketFault}
 use Rattle.air_model.specs.declared.bucket.BucketFault.TheVariants.{Magic}
-use Rattle.air_model.specs.Aired.{Air, fits}
+use Rattle.air_model.specs.Aired.{Air}
 use Rattle.air_model.specs.Buckets.{Body, Bucket, Idle, Column, Vector, item_of}
 use Rattle.air_model.specs.Reads.{Read}
 use Rattle.air_model.specs.Sessions.{Reader, SessionLine, State, query_of, read_in, wanted}
@@ -18,8 +18,8 @@ use Rattle.air_model.specs.SessionLaws.{IsUnwanted, after, dozed_through}
 use Rattle.receiver_core.specs.Receivers.{IsSettled, Receiver}
 use Rattle.listeners.specs.declared.judged.JudgedPiece.{JudgedPiece}
 use Rattle.listeners.specs.declared.judged.Stretch.{Stretch}
-use Rattle.listeners.specs.Listeners.{Listener, hears}
-use Rattle.listeners.specs.Private.JudgedPieces.{AreItemsOf, AreStretches, BeginsStretch, FitsInCycle, IsJudged, IsStretch, TellsItem, member_at}
+use Rattle.listeners.specs.Listeners.{hears}
+use Rattle.listeners.specs.Private.JudgedPieces.{BeginsStretch, FitsInCycle, IsJudged, IsStretch, TellsItem, member_at}
 use Rattle.listeners.specs.Private.Sleeping.{listening}
 use Rattle.listeners.proofs.SleepLemmas.{each_on, slept_through}
 

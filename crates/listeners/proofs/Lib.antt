@@ -10,4 +10,6 @@ pub mod ApartLemmas
 pub mod TogetherLemmas
 mod HistoryLemmas
 pub mod SleepLemmas
+pub mod PlaceLemmas
+pub mod PlaceReaderLemmas
 pub mod JudgedLemmas

@@ -12,9 +12,9 @@ use Rattle.air_base.specs.declared.verdicts.Policy.{Policy}
 use Rattle.air_base.specs.declared.verdicts.Policy.TheVariants.{FMatrix, Datacycle, RMatrix}
 use Rattle.air_history.specs.Boards.{Board}
 use Rattle.air_model.specs.Aired.{Air, aired_as}
-use Rattle.air_model.specs.Buckets.{Body, Bucket, Idle, capped_body}
+use Rattle.air_model.specs.Buckets.{Bucket, capped_body}
 use Rattle.air_model.specs.Judges.{by_entries}
-use Rattle.air_model.specs.Sessions.{Reader, SessionLine, State, copy_of, hear, query_of, read_in, settle, wanted}
+use Rattle.air_model.specs.Sessions.{Reader, SessionLine, State, copy_of, hear, query_of, read_in, wanted}
 use Rattle.air_model.specs.SessionLaws.{IsUnwanted, after, dozed_through, newest_of}
 use Rattle.air_model.proofs.DozeLemmas.{dozes_one, still_free}
 use Rattle.air_model.proofs.SettleLemmas.{settle_is}
@@ -134,14 +134,14 @@ body_read None by v c board (Some i) other = item_read None by v c i _ _ (λ e. 
 body_read (Some w) by v c board (Some i) other = item_read (Some w) by v c i _ _ (λ e. other (sym e))
 
 module _ (form : Form) (e : ℕ) (slots : List (Option ℕ)) (board : Board) where
-  abbrev on : ℕ → Bucket
+  abbrev pub on : ℕ → Bucket
   on s = bucket_on form e slots board s
 
-  on_cycle : (s : ℕ) → (on s).cycle ≡ board.cycle
+  pub on_cycle : (s : ℕ) → (on s).cycle ≡ board.cycle
   unfolding bucket_on
   on_cycle s = refl
 
-  on_read : (w : Option ℕ) (s : ℕ) → IfSome w (λ i. get_or slots s None ≢ Some i) → IfSome (read_in (on s).cycle (on s).body) (λ x. w ≢ Some x.item)
+  pub on_read : (w : Option ℕ) (s : ℕ) → IfSome w (λ i. get_or slots s None ≢ Some i) → IfSome (read_in (on s).cycle (on s).body) (λ x. w ≢ Some x.item)
   unfolding bucket_on
   on_read w s other = body_read w form.policy form.version board.cycle board (get_or slots s None) other
 
@@ -183,7 +183,7 @@ one_more on s next first mid now within so_far heard =
     ∙ ap (λ os. hears os first) (sym (map-range_with_len_more on s k next (omega arith)) ∙ ap (λ m. map on (range_with_len s m)) (sym long))
 
 -- Two stretches one behind the other.
-join : (on : ℕ → Option Bucket) (s k m : ℕ) → map on (range_with_len s (k + m)) ≡ map on (range_with_len s k) ++ map on (range_with_len (s + k) m)
+pub join : (on : ℕ → Option Bucket) (s k m : ℕ) → map on (range_with_len s (k + m)) ≡ map on (range_with_len s k) ++ map on (range_with_len (s + k) m)
 join on s zero m =
     let none : 0 + m ≡ m = omega arith in
     let same : s ≡ s + 0 = omega arith in

@@ -4,3 +4,4 @@ pub mod Endings
 pub mod JudgedPieces
 pub mod Sleeping
 pub mod TogetherSteps
+pub mod PlaceSteps

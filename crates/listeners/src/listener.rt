@@ -2,10 +2,13 @@
 //!
 //! It is seen as its reader's state with every line up to now. It takes the verdicts before each member, and hears it.
 
-ghost use Rattle.std.specs.Prelude.{◌≡◌, ◌⊎◌, ◌<◌, ◌≤◌, ◌+◌, ◌-◌, ◌*◌, ◌^◌, ◌++◌, ◌∷◌, [], All, IfOk, OnOk, Some, length, map};
+ghost use Rattle.std.specs.Prelude.{◌≡◌, ◌⊎◌, ℕ, true, false, Option, ◌<◌, ◌≤◌, ◌+◌, ◌-◌, ◌*◌, ◌^◌, ◌++◌, ◌∷◌, [], All, IfOk, OnOk, Some, length, map};
 ghost use Rattle.std.specs.List.{range_with_len};
 ghost use Rattle.std.specs.Result.{result_ok};
-ghost use Rattle.air_model.specs.Buckets.{IsInRange, entry_len, most_count};
+ghost use Rattle.air_ether.specs.declared.ether.TheConstants.{MOST_PUSHES};
+ghost use Rattle.air_ether.specs.HeardPlaces.{IsPlacesAfter, left_before};
+ghost use Rattle.air_ether.specs.HeardSoFar.{IsQuiet};
+ghost use Rattle.air_model.specs.Buckets.{Bucket, IsInRange, entry_len, most_count};
 ghost use Rattle.air_model.specs.Disks.{all_items};
 ghost use Rattle.air_model.specs.Programs.{program as slots_of};
 ghost use Rattle.air_model.specs.Reports.{line_by};
@@ -15,13 +18,18 @@ ghost use Rattle.receiver_core.specs.Receivers.{heard_count};
 ghost use Rattle.listeners.specs.AiredCycles.{AreFitting};
 ghost use Rattle.listeners.specs.Listeners.{ChangesNoAttempt, end_state, hears, hears_one, listener_of};
 ghost use Rattle.listeners.specs.Private.Endings.{lines_and_counts};
+ghost use Rattle.listeners.specs.PlaceListeners.{given_at};
 ghost use Rattle.listeners.specs.Private.JudgedPieces.{IsJudged, member_at};
+ghost use Rattle.listeners.specs.Private.PlaceSteps.{AreMembers, places_to};
 
 use crate::cycles::{hear_slot, sleep};
 use crate::judged::{JudgedPiece, sleep_in};
+use crate::late_buckets::LateBuckets;
+use crate::places::{hear_place, sleep_places};
 use crate::readers::Sessions;
 use crate::verdicts::{SessionLine, end_queries, take_verdicts};
 use air_base::{Counts, Form, NoMemory};
+use air_ether::PlaceEther;
 use air_model::bucket::BucketFault;
 use air_model::reports::{CountsLine, VerdictLine};
 use air_sender::Source;
@@ -113,6 +121,59 @@ impl Listener {
         }
         hear_slot(&mut self.receiver, program, source, form, next, buf);
         Ok(next + 1)
+    }
+
+    /// If its ether gives a member of a cycle, takes the verdicts before it, and hears what the ether gives, up to the next bucket that is
+    /// wanted or of a cycle before, or to the end of the cycle: whether it isn't the end.
+    pub(crate) fn hear_places<S: Source>(
+        &mut self,
+        alloc: Global,
+        ether: &mut PlaceEther,
+        program: &Program,
+        source: &S,
+        form: Form,
+        first: u64,
+        late: &LateBuckets,
+        buf: &mut [u8],
+    ) -> Result<bool, NoMemory>
+        requires fitting { AreFitting self.old.air form program.now.edition (slots_of program.now.disks) (S.board source.now) }
+        requires open { ether.old.ended ≡ false }
+        requires last { first + length (slots_of program.now.disks) ≤ MOST_PUSHES }
+        requires pushes { (first ≤ ether.old.pushes) × (ether.old.pushes ≤ first + length (slots_of program.now.disks)) }
+        requires counts { heard_count self.old.state.counts + left_before (first + length (slots_of program.now.disks)) ether.old < 2 ^ 64 }
+        requires version { (form.version ≡ 1) ⊎ (form.version ≡ 2) }
+        requires few { length (S.board source.now).values ≤ most_count form.version }
+        requires started { 1 ≤ (S.board source.now).cycle }
+        requires below { EntriesBelow (S.board source.now) }
+        requires allowed { S.airs form.policy }
+        requires items { length (all_items program.now.disks) ≡ length (S.board source.now).values }
+        requires room { HEAD_BYTES + entry_len form.version * length (S.board source.now).values ≤ length buf.old }
+        ensures odds { OnOk result (ether.new.odds ≡ ether.old.odds) }
+        ensures open { OnOk result (ether.new.ended ≡ false) }
+        ensures pushes { OnOk result ((first ≤ ether.new.pushes) × (ether.new.pushes ≤ first + length (slots_of program.now.disks))) }
+        ensures all { IfOk result (λ more. more ≡ false → (ether.new.pushes ≡ first + length (slots_of program.now.disks)) × IsQuiet ether.new) }
+        ensures air { OnOk result (self.new.air ≡ self.old.air) }
+        ensures counts { OnOk result (heard_count self.new.state.counts + left_before (first + length (slots_of program.now.disks)) ether.new
+            ≤ heard_count self.old.state.counts + left_before (first + length (slots_of program.now.disks)) ether.old) }
+        ensures fewer { IfOk result (λ more. more ≡ true → left_before (first + length (slots_of program.now.disks)) ether.new < left_before (first + length (slots_of program.now.disks)) ether.old) }
+        ensures heard { (seed number given : ℕ) (member : ℕ → Option Bucket) → IsPlacesAfter seed number given ether.old →
+            AreMembers form program.now.edition (slots_of program.now.disks) (S.board source.now) first late.now member →
+            IfOk result (λ more. (next : ℕ) × (given ≤ next) × IsPlacesAfter seed number next ether.new
+            × (more ≡ false → next ≡ length (places_to seed number ether.old (first + length (slots_of program.now.disks))))
+            × (self.new ≡ hears (map (given_at member (places_to seed number ether.old (first + length (slots_of program.now.disks)))) (range_with_len given (next - given))) self.old)) }
+        ensures buffer { length buf.new ≡ length buf.old }
+    {
+        let last = first + u64::from(program.slots());
+        let Some(start) = ether.next_before(last) else {
+            return Ok(false);
+        };
+        take_verdicts(alloc, &mut self.receiver, &mut self.lines)?;
+        let receiver = &mut self.receiver;
+        let Some(place) = sleep_places(receiver, ether, program, source, form, first, start) else {
+            return Ok(false);
+        };
+        hear_place(receiver, program, source, form, first, late, place, buf);
+        Ok(true)
     }
 
     /// Takes the verdicts before the member of a place, and hears a judged piece from there on, up to the next member that it wants, or

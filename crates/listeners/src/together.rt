@@ -20,7 +20,7 @@ use crate::pieces::{hear_piece, next_piece};
 use crate::readers::{MOST_THREADS, Sessions, end_all};
 use air_base::NoMemory;
 use bucket_codec::TapeReader;
-use chunk_program::{Planned, PlannedRef};
+use chunk_program::Planned;
 use receiver_core::Air;
 use std::alloc::Global;
 use std::marker::Model;
@@ -152,7 +152,7 @@ impl Together {
     pub fn new(alloc: Global, planned: &Planned) -> Result<Together, NoMemory>
         ensures { IfOk result (λ t. t ≡ map (listener_of planned.now) (range_with_len 0 (length planned.now.readers))) }
     {
-        let air = Air::new(&PlannedRef::of(planned.deck(), planned.plans()))?;
+        let air = Air::new(&planned.lend())?;
         let mut readers = Vec::new(alloc);
         for r in 0..planned.deck().readers() {
             readers.push(TogetherReader {

@@ -202,6 +202,10 @@ pub is_audit : IsAudit small its_bytes one_finding
 unfolding replayed_in is_start
 is_audit = record { read = read_in 11; is = is_report; within = omega arith; are = sym its_findings; true_of = true_audit }
 
+-- A text that is no report of the deck has no audit.
+not_audit_of_faulty : (found : List Finding) → IsAudit small faulty found → ⊥
+not_audit_of_faulty found h = no_report_fault small faulty h.read 2 6 h.is has_fault
+
 -- An audit of nothing is none of it.
 not_audit : IsAudit small its_bytes [] → ⊥
 not_audit h =

@@ -32,7 +32,7 @@ use Rattle.air_model.specs.Judges as judge
 use Rattle.air_model.proofs.HeardLemmas.{nearer, none_far}
 use Rattle.air_model.proofs.MomentLemmas.{Gives, Keeps, kept}
 use Rattle.live_replay.specs.declared.findings.Cause.TheVariants as cause
-use Rattle.live_replay.specs.Findings.{all_pass, has_value, is_clash, is_refused, look_cause, place_of_line, places_of, read_in_cycle, spans_so, verdict_cause}
+use Rattle.live_replay.specs.Findings.{all_pass, has_value, is_clash, is_refused, look_cause, place_of_line, places_read, read_in_cycle, spans_so, verdict_cause}
 use Rattle.live_replay.specs.FindingLaws.{EndsSo, GivesLook, GivesVerdict, SpansSo}
 use Rattle.live_replay.proofs.PassLemmas.{accepts_pass, pass_accepts}
 
@@ -105,7 +105,7 @@ module _ (deck : Deck) (H : List Event) where
   unfolding verdict_cause
   agrees line = (
     λ none.
-        let R = places_of line.reads in
+        let R = places_read line.reads in
         let kind = line.verdict.kind in
         let ended = is_refused (scheme_in deck) (length deck.items) H R kind && spans_so deck.settings.version R kind in
         let tests = chosen (list_all (has_value (values_in deck) H) line.reads) (all_pass (scheme_in deck) (length deck.items) H R && ended) (is_clash (scheme_in deck) (length deck.items) H R kind) none in
@@ -118,7 +118,7 @@ module _ (deck : Deck) (H : List Event) where
           span = spans_from deck.settings.version R kind last.1;
         },
     λ gives.
-        let R = places_of line.reads in
+        let R = places_read line.reads in
         let end = refused_from (scheme_in deck) (length deck.items) H R line.verdict.kind gives.end in
         none_chosen _ _ _
         (list_all-from_AllPass (has_value (values_in deck) H) line.reads (λ k d l. eq-eqb _ _ (gives.values k d l)))
@@ -138,7 +138,7 @@ module _ (deck : Deck) (H : List Event) where
   abbrev judging : Judge
   judging = by_history (scheme_in deck) (length deck.items) (values_in deck) H
 
-  places_in : (q a : ℕ) (kind : VerdictKind) (R : List Read) → places_of (line_of judging q a kind R).reads ≡ map judge.place_of R
+  places_in : (q a : ℕ) (kind : VerdictKind) (R : List Read) → places_read (line_of judging q a kind R).reads ≡ map judge.place_of R
   unfolding line_of
   places_in q a kind R = map-map _ _ R
 
@@ -146,7 +146,7 @@ module _ (deck : Deck) (H : List Event) where
       SpansSo deck.settings.version (map judge.place_of R) kind → verdict_cause deck H (line_by r (line_of judging q a kind R)) ≡ None
   unfolding line_of by_history
   gives_line r q a kind R accepts end span =
-      let same : map judge.place_of R ≡ places_of (line_of judging q a kind R).reads = sym (places_in q a kind R) in
+      let same : map judge.place_of R ≡ places_read (line_of judging q a kind R).reads = sym (places_in q a kind R) in
       (agrees (line_by r (line_of judging q a kind R))).1 (record {
         values = All-map (λ s. s.value ≡ read_value (values_of (values_in deck)) H (place_of_line s)) (λ (x : Read). record { item = x.item; cycle = x.cycle; value = read_value (values_of (values_in deck)) H (judge.place_of x) }) R (λ k d l. refl);
         accepts = subst (Accepts (scheme_in deck) (length deck.items) H) same accepts;

@@ -21,7 +21,7 @@ use Rattle.air_report.specs.ReportLines.{lines_in, starts_in}
 use Rattle.air_report.specs.declared.reading.lines.ReportLine.TheVariants as l
 use Rattle.air_report.specs.LineRules.{InGrammar, IsRight}
 use Rattle.air_report.proofs.PrintedGrammar.{starts_of}
-use Rattle.live_replay.specs.Findings.{place_of_line, places_of}
+use Rattle.live_replay.specs.Findings.{place_of_line, places_read}
 use Rattle.live_replay.specs.Private.Groups.{IsItemRead}
 use Rattle.live_replay.specs.Private.Lines.{EndFits, LineFits}
 
@@ -63,7 +63,7 @@ unmapped : (n : ℕ) (reads : List ReadOf) → All (λ i. i < n) (map read_item 
 unmapped n [] h = All-nil (λ r. r.item < n)
 unmapped n (r ∷ reads) h = All-cons (λ r. r.item < n) r reads (All-head (λ i. i < n) r.item (map read_item reads) h) (unmapped n reads (All-tail (λ i. i < n) r.item (map read_item reads) h))
 
-begun_reads : (starts : ℕ) (reads : List ReadOf) → list_all (λ read. has_begun starts read.cycle) reads ≡ true → All IsRead (places_of reads)
+begun_reads : (starts : ℕ) (reads : List ReadOf) → list_all (λ read. has_begun starts read.cycle) reads ≡ true → All IsRead (places_read reads)
 begun_reads starts reads h = All-map IsRead place_of_line reads (λ k d l. leb-true 1 (get_or reads k d).cycle (and_parts _ _ (AllPass-from_list_all (λ read. has_begun starts read.cycle) reads h k d l)).0)
 
 reads_within : (starts : ℕ) (reads : List ReadOf) → list_all (λ read. has_begun starts read.cycle) reads ≡ true → All (λ r. r.cycle ≤ starts) reads

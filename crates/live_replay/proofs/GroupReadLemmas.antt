@@ -6,7 +6,7 @@ use Rattle.std.proofs.lemmas.List.Elements.{filter-append}
 use Rattle.std.proofs.lemmas.List.FromFn.{map-range_with_len_more}
 use Rattle.air_base.specs.declared.verdicts.ReadOf.{ReadOf}
 use Rattle.air_history.specs.Reads.{ReadAt}
-use Rattle.live_replay.specs.Findings.{place_of_line, places_of, read_in_cycle}
+use Rattle.live_replay.specs.Findings.{place_of_line, places_read, read_in_cycle}
 
 -- The items of a group among the first k numbers from its first item on.
 abbrev pub first_items : ℕ → ℕ → ℕ → ℕ → List ℕ
@@ -41,14 +41,14 @@ group_more n j c start k q b same test =
     ∙ ap (λ b. map f (filter t (range_with_len start k)) ++ cond b (f q ∷ []) []) test
 
 -- A number that is an item of the group is read, and another one isn't.
-module _ (n j c start k q m : ℕ) (same : start + k ≡ q) (next : m ≡ k + 1) (old : List ReadOf) (so_far : places_of old ≡ map (λ q. read_in_cycle q c) (first_items n j start k)) where
+module _ (n j c start k q m : ℕ) (same : start + k ≡ q) (next : m ≡ k + 1) (old : List ReadOf) (so_far : places_read old ≡ map (λ q. read_in_cycle q c) (first_items n j start k)) where
   pub read_more : (new : List ReadOf) (x : ReadOf) → (nat_lt q n || (q == j)) ≡ true → place_of_line x ≡ read_in_cycle q c → new ≡ old ++ x ∷ [] →
-      places_of new ≡ map (λ q. read_in_cycle q c) (first_items n j start m)
+      places_read new ≡ map (λ q. read_in_cycle q c) (first_items n j start m)
   read_more new x test is e =
-      ap places_of e ∙ map_push place_of_line old x ∙ ap (λ r. places_of old ++ r ∷ []) is ∙ ap (λ rs. rs ++ read_in_cycle q c ∷ []) so_far
+      ap places_read e ∙ map_push place_of_line old x ∙ ap (λ r. places_read old ++ r ∷ []) is ∙ ap (λ rs. rs ++ read_in_cycle q c ∷ []) so_far
       ∙ sym (group_more n j c start k q true same test) ∙ ap (λ m. map (λ q. read_in_cycle q c) (first_items n j start m)) (sym next)
 
-  pub read_same : (new : List ReadOf) → (nat_lt q n || (q == j)) ≡ false → new ≡ old → places_of new ≡ map (λ q. read_in_cycle q c) (first_items n j start m)
+  pub read_same : (new : List ReadOf) → (nat_lt q n || (q == j)) ≡ false → new ≡ old → places_read new ≡ map (λ q. read_in_cycle q c) (first_items n j start m)
   read_same new test e =
-      ap places_of e ∙ so_far ∙ sym (append-nil (map (λ q. read_in_cycle q c) (first_items n j start k)))
+      ap places_read e ∙ so_far ∙ sym (append-nil (map (λ q. read_in_cycle q c) (first_items n j start k)))
       ∙ sym (group_more n j c start k q false same test) ∙ ap (λ m. map (λ q. read_in_cycle q c) (first_items n j start m)) (sym next)

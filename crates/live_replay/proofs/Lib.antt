@@ -1,3 +1,4 @@
+mod StepExamples
 mod FindingExamples
 mod WholeExamples
 pub mod CountLemmas

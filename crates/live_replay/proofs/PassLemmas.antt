@@ -21,7 +21,7 @@ use Rattle.air_history.proofs.AcceptedLemmas.{accepted, passes_from}
 use Rattle.air_history.proofs.ConsistencyLemmas.{whole}
 use Rattle.air_history.proofs.PolicyLemmas.{stays_consistent}
 use Rattle.air_base.specs.declared.verdicts.ReadOf.{ReadOf}
-use Rattle.live_replay.specs.Findings.{all_pass, place_of_line, places_of, read_in_cycle}
+use Rattle.live_replay.specs.Findings.{all_pass, place_of_line, places_read, read_in_cycle}
 
 -- As a test and as a fact.
 pub pass_accepts : (scheme : Scheme) (n : ℕ) (H : List Event) (R : List ReadAt) → all_pass scheme n H R ≡ true → Accepts scheme n H R
@@ -87,8 +87,8 @@ pass_fails scheme n H R k l fails = false_from_ne_true _ (λ h. both_ways _ fail
 
 -- The reads before a place, and the one there.
 pub at_place : (scheme : Scheme) (n : ℕ) (H : List Event) (reads : List ReadOf) (k : ℕ) (d : ReadOf) → k < length reads →
-    passes scheme n H (places_of (take k reads)) (place_of_line (get_or reads k d)) ≡ passes scheme n H (take k (places_of reads)) (get_or (places_of reads) k (read_in_cycle 0 0))
-at_place scheme n H reads k d l = ap (λ R. passes scheme n H R (place_of_line (get_or reads k d))) (sym (take-map place_of_line k reads)) ∙ ap (passes scheme n H (take k (places_of reads))) (sym (get_or-map place_of_line reads k d (read_in_cycle 0 0) l))
+    passes scheme n H (places_read (take k reads)) (place_of_line (get_or reads k d)) ≡ passes scheme n H (take k (places_read reads)) (get_or (places_read reads) k (read_in_cycle 0 0))
+at_place scheme n H reads k d l = ap (λ R. passes scheme n H R (place_of_line (get_or reads k d))) (sym (take-map place_of_line k reads)) ∙ ap (passes scheme n H (take k (places_read reads))) (sym (get_or-map place_of_line reads k d (read_in_cycle 0 0) l))
 
 -- ---- by groups
 

@@ -27,7 +27,7 @@ use Rattle.air_report.specs.declared.reading.lines.ReportLine.TheVariants as l
 use Rattle.live_replay.specs.Audits.{found_in, replayed_in}
 use Rattle.live_replay.specs.FindingLaws.{EndsSo, SpansSo}
 use Rattle.live_replay.specs.FindingTexts.{audited_row, cause_word, differs, finding_row, findings_text, row_of, some_differ}
-use Rattle.live_replay.specs.Findings.{has_value, look_cause, place_of_line, places_of, read_in_cycle}
+use Rattle.live_replay.specs.Findings.{has_value, look_cause, place_of_line, places_read, read_in_cycle}
 use Rattle.live_replay.specs.ReportFindings.{finding_of, sessions_judged}
 use Rattle.live_replay.specs.declared.findings.Cause.TheVariants.{Value, Verdict, Clash, Total}
 use Rattle.live_replay.specs.declared.findings.Finding.{Finding}
@@ -71,7 +71,7 @@ pub record Texts : Type 0 where
   none : some_differ [] ≡ false
   -- reads and lines
   place : place_of_line (r 6 2 10) ≡ at 6 2
-  places : places_of (r 6 2 10 ∷ r 5 1 9 ∷ []) ≡ at 6 2 ∷ at 5 1 ∷ []
+  places : places_read (r 6 2 10 ∷ r 5 1 9 ∷ []) ≡ at 6 2 ∷ at 5 1 ∷ []
   no_value : read_in_cycle 6 2 ≡ at 6 2
   catalog_value : has_value (10 ∷ 20 ∷ []) (script_history turned) (r 0 1 10) ≡ true
   other_value : has_value (10 ∷ 20 ∷ []) (script_history turned) (r 0 2 10) ≡ false

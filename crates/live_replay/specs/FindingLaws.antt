@@ -14,7 +14,7 @@ use Rattle.air_model.specs.Reports.{total_at}
 use Rattle.air_model.specs.SessionLaws.{IsAged, are_far, decided_on}
 use Rattle.air_model.specs.declared.reports.LookLine.{LookLine}
 use Rattle.air_model.specs.declared.reports.VerdictLine.{VerdictLine}
-use Rattle.live_replay.specs.Findings.{place_of_line, places_of, read_in_cycle}
+use Rattle.live_replay.specs.Findings.{place_of_line, places_read, read_in_cycle}
 
 -- The named read of an abort or an aged attempt comes in time, and an abort's clashes with the held read of the named item.
 abbrev pub EndsSo : Scheme → ℕ → List Event → List ReadAt → VerdictKind → Type 0
@@ -31,9 +31,9 @@ SpansSo version R kind = (are_far version R ≡ false) × (IsAged kind ↔ IsTru
 -- The replay over a history gives the values of a line's reads, and its verdict.
 pub record GivesVerdict (deck : Deck) (H : List Event) (line : VerdictLine) : Type 0 where
   pub values : All (λ r. r.value ≡ read_value (values_of (values_in deck)) H (place_of_line r)) line.reads
-  pub accepts : Accepts (scheme_in deck) (length deck.items) H (places_of line.reads)
-  pub end : EndsSo (scheme_in deck) (length deck.items) H (places_of line.reads) line.verdict.kind
-  pub span : SpansSo deck.settings.version (places_of line.reads) line.verdict.kind
+  pub accepts : Accepts (scheme_in deck) (length deck.items) H (places_read line.reads)
+  pub end : EndsSo (scheme_in deck) (length deck.items) H (places_read line.reads) line.verdict.kind
+  pub span : SpansSo deck.settings.version (places_read line.reads) line.verdict.kind
 
 -- The replay over a history gives the total of a look or a glance.
 abbrev pub GivesLook : Deck → List Event → LookLine → Type 0

@@ -26,8 +26,8 @@ abbrev pub place_of_line : ReadOf → ReadAt
 place_of_line read = record { item = read.item; cycle = read.cycle }
 
 -- The items and cycles of reads.
-abbrev pub places_of : List ReadOf → List ReadAt
-places_of reads = map place_of_line reads
+abbrev pub places_read : List ReadOf → List ReadAt
+places_read reads = map place_of_line reads
 
 -- A read of an item in a cycle.
 abbrev pub read_in_cycle : ℕ → ℕ → ReadAt
@@ -71,7 +71,7 @@ unfoldable pub verdict_cause : Deck → List Event → VerdictLine → Option Ca
 verdict_cause deck H line =
     let scheme = scheme_in deck in
     let n = length deck.items in
-    let R = places_of line.reads in
+    let R = places_read line.reads in
     let kind = line.verdict.kind in
     if not (list_all (has_value (values_in deck) H) line.reads) then Some Value
     else if not (all_pass scheme n H R && (is_refused scheme n H R kind && spans_so deck.settings.version R kind)) then Some Verdict

@@ -9,7 +9,7 @@ ghost use Rattle.air_history.specs.Consistency.{consistent};
 ghost use Rattle.air_history.specs.Histories.{ItemsFit, writes};
 ghost use Rattle.air_history.specs.Places.{same_place};
 ghost use Rattle.air_history.specs.Reads.{origin};
-ghost use Rattle.live_replay.specs.Findings.{places_of};
+ghost use Rattle.live_replay.specs.Findings.{places_read};
 ghost use Rattle.live_replay.specs.Private.Alone.{overwrites_read, first_or_none, is_after, is_met};
 
 use crate::replay::{Replay, same_place};
@@ -24,7 +24,7 @@ pub fn origins_of(
     replay: &Replay<'_>,
     reads: &[ReadOf],
 ) -> Result<Vec<Option<u64>>, NoMemory>
-    ensures { IfOk result (λ origins. origins.items ≡ map (origin replay.now.history) (places_of reads.now)) }
+    ensures { IfOk result (λ origins. origins.items ≡ map (origin replay.now.history) (places_read reads.now)) }
 {
     let mut origins = Vec::new(alloc);
     for read in reads {
@@ -112,8 +112,8 @@ fn overwrites_read(
     origins: &[Option<u64>],
 ) -> bool
     requires within { place < length events.now }
-    requires origins { origins.now ≡ map (origin events.now) (places_of reads.now) }
-    ensures { result ≡ overwrites_read events.now (places_of reads.now) place }
+    requires origins { origins.now ≡ map (origin events.now) (places_read reads.now) }
+    ensures { result ≡ overwrites_read events.now (places_read reads.now) place }
 {
     for (k, read) in reads.iter().enumerate() {
         if writes_after(&events[place], place as u64, read.item, origins[k]) {
@@ -130,10 +130,10 @@ fn none_late(
     origins: &[Option<u64>],
     sought: &mut [bool],
 ) -> bool
-    requires origins { origins.now ≡ map (origin events.now) (places_of reads.now) }
+    requires origins { origins.now ≡ map (origin events.now) (places_read reads.now) }
     requires fits { All (ItemsFit (length sought.old)) events.now }
     requires clear { (i : ℕ) → get_or sought.old i false ≡ false }
-    ensures { result ≡ consistent events.now (places_of reads.now) }
+    ensures { result ≡ consistent events.now (places_read reads.now) }
 {
     let first = first_of(origins) as usize;
     let end = end_of(events.len(), origins);
@@ -151,7 +151,7 @@ fn none_late(
 
 /// Whether the reads are consistent.
 pub fn is_consistent(alloc: Global, replay: &Replay<'_>, reads: &[ReadOf]) -> Result<bool, NoMemory>
-    ensures { IfOk result (λ told. told ≡ consistent replay.now.history (places_of reads.now)) }
+    ensures { IfOk result (λ told. told ≡ consistent replay.now.history (places_read reads.now)) }
 {
     let origins = origins_of(alloc, replay, reads)?;
     let mut sought = none_set(alloc, replay.items() as usize)?;

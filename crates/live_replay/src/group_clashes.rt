@@ -9,7 +9,7 @@ ghost use Rattle.air_history.specs.Columns.{has_groups};
 ghost use Rattle.air_history.specs.Clashes.{group_clash, named_clash};
 ghost use Rattle.air_model.specs.Aired.{scheme_in};
 ghost use Rattle.air_model.specs.Decks.{values_in};
-ghost use Rattle.live_replay.specs.Findings.{all_pass, place_of_line, places_of};
+ghost use Rattle.live_replay.specs.Findings.{all_pass, place_of_line, places_read};
 ghost use Rattle.live_replay.specs.Private.Groups.{AreMarksOf, HaveMarks, IsItemRead, is_marked, writes_between};
 
 use crate::groups::{GroupMarks, all_marks, marks_of};
@@ -80,7 +80,7 @@ fn least_clash(
     requires held_marks { HaveMarks replay.now (read.now ∷ []) held.now held_marks.now }
     requires marks { AreMarksOf replay.now held.now read.now marks.now }
     ensures { result ≡ named_clash (λ r. group_clash replay.now.history replay.now.deck.settings.group (length replay.now.deck.items)
-        r (place_of_line read.now)) (places_of held.now) }
+        r (place_of_line read.now)) (places_read held.now) }
 {
     let mut least = None;
     for k in (0..held.len()).rev() {
@@ -102,7 +102,7 @@ pub fn clash_by_groups(
     requires held { All (IsItemRead (length replay.now.deck.items)) held.now }
     requires new { IsItemRead (length replay.now.deck.items) read.now }
     ensures { IfOk result (λ clash. clash ≡ named_clash (λ r. group_clash replay.now.history replay.now.deck.settings.group
-        (length replay.now.deck.items) r (place_of_line read.now)) (places_of held.now)) }
+        (length replay.now.deck.items) r (place_of_line read.now)) (places_read held.now)) }
 {
     let held_marks = all_marks(alloc, replay, &[*read], held)?;
     let marks = marks_of(alloc, replay, held, read)?;
@@ -117,7 +117,7 @@ pub fn all_pass_by_groups(
 ) -> Result<bool, NoMemory>
     requires some { IsTrue (has_groups (scheme_in replay.now.deck)) }
     requires reads { All (IsItemRead (length replay.now.deck.items)) reads.now }
-    ensures { IfOk result (λ told. told ≡ all_pass (scheme_in replay.now.deck) (length replay.now.deck.items) replay.now.history (places_of reads.now)) }
+    ensures { IfOk result (λ told. told ≡ all_pass (scheme_in replay.now.deck) (length replay.now.deck.items) replay.now.history (places_read reads.now)) }
 {
     let marks = all_marks(alloc, replay, reads, reads)?;
     for k in 0..reads.len() {

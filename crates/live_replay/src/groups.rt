@@ -8,7 +8,7 @@ ghost use Rattle.std.specs.List.{list_any};
 ghost use Rattle.air_history.specs.Histories.{ItemsFit, writes_of};
 ghost use Rattle.air_history.specs.Reads.{ReadAt, origin};
 ghost use Rattle.air_model.specs.Decks.{values_in};
-ghost use Rattle.live_replay.specs.Findings.{place_of_line, places_of};
+ghost use Rattle.live_replay.specs.Findings.{place_of_line, places_read};
 ghost use Rattle.live_replay.specs.Private.Groups.{AreMarksOf, HaveMarks, MarksAlone, MarksOrigins, group_reads, writes_between};
 
 use crate::alone::{end_of, origins_of};
@@ -35,7 +35,7 @@ fn is_item(item: u32, items: u32, own: u32) -> bool
 /// The reads of a read's group in its cycle, of no value.
 fn group_reads(alloc: Global, replay: &Replay<'_>, read: &ReadOf) -> Result<Vec<ReadOf>, NoMemory>
     requires { 0 < replay.now.deck.settings.group }
-    ensures { IfOk result (λ reads. places_of reads.items
+    ensures { IfOk result (λ reads. places_read reads.items
         ≡ group_reads replay.now.deck.settings.group (length replay.now.deck.items) (place_of_line read.now)) }
 {
     let group = u32::from(replay.group());

@@ -6,7 +6,7 @@ ghost use Rattle.air_base.specs.declared.verdicts.VerdictKind.TheVariants.{Abort
 ghost use Rattle.air_history.specs.Histories.{starts};
 ghost use Rattle.air_model.specs.Aired.{scheme_in};
 ghost use Rattle.air_model.specs.Decks.{values_in};
-ghost use Rattle.live_replay.specs.Findings.{has_value, is_clash, is_refused, look_cause, places_of, spans_so, verdict_cause};
+ghost use Rattle.live_replay.specs.Findings.{has_value, is_clash, is_refused, look_cause, places_read, spans_so, verdict_cause};
 ghost use Rattle.live_replay.specs.Private.Groups.{IsItemRead};
 ghost use Rattle.live_replay.specs.Private.Lines.{EndFits, LineFits};
 ghost use Rattle.live_replay.specs.declared.findings.Cause.{Cause};
@@ -47,8 +47,8 @@ fn abort_cause(
     requires named { named.cycle ≤ starts replay.now.history }
     requires named_item { IsItemRead (length replay.now.deck.items) named }
     ensures { IfOk result (λ cause. cause ≡
-        (if not (is_refused (scheme_in replay.now.deck) (length replay.now.deck.items) replay.now.history (places_of reads.now) (Abort named.item named.cycle told)) then Some Cause.Verdict
-        else if not (is_clash (scheme_in replay.now.deck) (length replay.now.deck.items) replay.now.history (places_of reads.now) (Abort named.item named.cycle told)) then Some Cause.Clash
+        (if not (is_refused (scheme_in replay.now.deck) (length replay.now.deck.items) replay.now.history (places_read reads.now) (Abort named.item named.cycle told)) then Some Cause.Verdict
+        else if not (is_clash (scheme_in replay.now.deck) (length replay.now.deck.items) replay.now.history (places_read reads.now) (Abort named.item named.cycle told)) then Some Cause.Clash
         else None)) }
 {
     if is_late(replay.policy(), reads, &named) {
@@ -73,9 +73,9 @@ fn end_cause(
     requires items { All (IsItemRead (length replay.now.deck.items)) reads.now }
     requires end { EndFits (length replay.now.deck.items) (starts replay.now.history) end }
     ensures { IfOk result (λ cause. cause ≡
-        (if not (is_refused (scheme_in replay.now.deck) (length replay.now.deck.items) replay.now.history (places_of reads.now) end
-        && spans_so replay.now.deck.settings.version (places_of reads.now) end) then Some Cause.Verdict
-        else if not (is_clash (scheme_in replay.now.deck) (length replay.now.deck.items) replay.now.history (places_of reads.now) end) then Some Cause.Clash
+        (if not (is_refused (scheme_in replay.now.deck) (length replay.now.deck.items) replay.now.history (places_read reads.now) end
+        && spans_so replay.now.deck.settings.version (places_read reads.now) end) then Some Cause.Verdict
+        else if not (is_clash (scheme_in replay.now.deck) (length replay.now.deck.items) replay.now.history (places_read reads.now) end) then Some Cause.Clash
         else None)) }
 {
     if !spans_so(replay.version(), reads, end) {

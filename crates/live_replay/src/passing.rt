@@ -7,7 +7,7 @@ ghost use Rattle.air_history.specs.Reads.{IsRead};
 ghost use Rattle.air_history.specs.Clashes.{clash_by_history, clash_of};
 ghost use Rattle.air_history.specs.ClashLaws.{passes};
 ghost use Rattle.air_model.specs.Aired.{scheme_in};
-ghost use Rattle.live_replay.specs.Findings.{all_pass, place_of_line, places_of};
+ghost use Rattle.live_replay.specs.Findings.{all_pass, place_of_line, places_read};
 ghost use Rattle.live_replay.specs.Private.Groups.{IsItemRead};
 
 use crate::alone::is_consistent;
@@ -27,7 +27,7 @@ fn clash_by_policy(
     requires held { All (λ r. r.cycle ≤ starts replay.now.history) held.now }
     requires new { read.now.cycle ≤ starts replay.now.history }
     ensures { IfOk result (λ clash. clash
-        ≡ clash_by_history replay.now.deck.settings.policy replay.now.history (places_of held.now) (place_of_line read.now)) }
+        ≡ clash_by_history replay.now.deck.settings.policy replay.now.history (places_read held.now) (place_of_line read.now)) }
 {
     match test_of(replay, held, read) {
         None => Ok(None),
@@ -47,7 +47,7 @@ pub fn clash(
     requires new { read.now.cycle ≤ starts replay.now.history }
     requires new_item { IsItemRead (length replay.now.deck.items) read.now }
     ensures { IfOk result (λ clash. clash
-        ≡ clash_of (scheme_in replay.now.deck) (length replay.now.deck.items) replay.now.history (places_of held.now) (place_of_line read.now)) }
+        ≡ clash_of (scheme_in replay.now.deck) (length replay.now.deck.items) replay.now.history (places_read held.now) (place_of_line read.now)) }
 {
     if replay.has_groups() {
         return clash_by_groups(alloc, replay, held, read);
@@ -67,7 +67,7 @@ fn passes(
     requires new { read.now.cycle ≤ starts replay.now.history }
     requires bare { has_groups (scheme_in replay.now.deck) ≡ false }
     ensures { IfOk result (λ told. told
-        ≡ passes (scheme_in replay.now.deck) (length replay.now.deck.items) replay.now.history (places_of held.now) (place_of_line read.now)) }
+        ≡ passes (scheme_in replay.now.deck) (length replay.now.deck.items) replay.now.history (places_read held.now) (place_of_line read.now)) }
 {
     if is_late(replay.policy(), held, read) {
         return Ok(false);
@@ -80,7 +80,7 @@ fn each_passes(alloc: Global, replay: &Replay<'_>, reads: &[ReadOf]) -> Result<b
     requires within { All (λ r. r.cycle ≤ starts replay.now.history) reads.now }
     requires bare { has_groups (scheme_in replay.now.deck) ≡ false }
     ensures { IfOk result (λ told. told
-        ≡ all_pass (scheme_in replay.now.deck) (length replay.now.deck.items) replay.now.history (places_of reads.now)) }
+        ≡ all_pass (scheme_in replay.now.deck) (length replay.now.deck.items) replay.now.history (places_read reads.now)) }
 {
     for k in 0..reads.len() {
         if !passes(alloc, replay, &reads[..k], &reads[k])? {
@@ -94,9 +94,9 @@ fn each_passes(alloc: Global, replay: &Replay<'_>, reads: &[ReadOf]) -> Result<b
 pub fn all_pass(alloc: Global, replay: &Replay<'_>, reads: &[ReadOf]) -> Result<bool, NoMemory>
     requires within { All (λ r. r.cycle ≤ starts replay.now.history) reads.now }
     requires items { All (IsItemRead (length replay.now.deck.items)) reads.now }
-    requires begun { All IsRead (places_of reads.now) }
+    requires begun { All IsRead (places_read reads.now) }
     ensures { IfOk result (λ told. told
-        ≡ all_pass (scheme_in replay.now.deck) (length replay.now.deck.items) replay.now.history (places_of reads.now)) }
+        ≡ all_pass (scheme_in replay.now.deck) (length replay.now.deck.items) replay.now.history (places_read reads.now)) }
 {
     if replay.has_groups() {
         return all_pass_by_groups(alloc, replay, reads);

@@ -6,7 +6,7 @@ ghost use Rattle.std.specs.Prelude.{◌≡◌, ◌≤◌, All, IfOk, IfSome, Som
 ghost use Rattle.air_history.specs.Histories.{starts};
 ghost use Rattle.air_history.specs.Reads.{first_cycle, last_cycle, newest_cycle};
 ghost use Rattle.air_history.specs.Clashes.{clash_by_history, is_late, lesser, named_clash};
-ghost use Rattle.live_replay.specs.Findings.{place_of_line, places_of};
+ghost use Rattle.live_replay.specs.Findings.{place_of_line, places_read};
 ghost use Rattle.live_replay.specs.Private.NamedClashes.{NamesWithin, clash_named, named_by};
 
 use crate::alone::is_consistent;
@@ -67,7 +67,7 @@ pub fn least_named(
 ) -> Result<Option<Clash>, NoMemory>
     requires held { All (λ r. r.cycle ≤ starts replay.now.history) held.now }
     requires new { NamesWithin (starts replay.now.history) test }
-    ensures { IfOk result (λ clash. clash ≡ named_clash (named_by replay.now.history test) (places_of held.now)) }
+    ensures { IfOk result (λ clash. clash ≡ named_clash (named_by replay.now.history test) (places_read held.now)) }
 {
     let mut least = None;
     for k in (0..held.len()).rev() {
@@ -80,7 +80,7 @@ pub fn least_named(
 
 /// The newest cycle of reads, 0 if there is none.
 fn newest_cycle(reads: &[ReadOf]) -> u32
-    ensures { result ≡ newest_cycle (places_of reads.now) }
+    ensures { result ≡ newest_cycle (places_read reads.now) }
 {
     let mut newest = 0;
     for read in reads {
@@ -91,7 +91,7 @@ fn newest_cycle(reads: &[ReadOf]) -> u32
 
 /// The cycle of the first read, 0 if there is none.
 fn first_cycle(reads: &[ReadOf]) -> u32
-    ensures { result ≡ first_cycle (places_of reads.now) }
+    ensures { result ≡ first_cycle (places_read reads.now) }
 {
     if reads.is_empty() {
         return 0;
@@ -102,7 +102,7 @@ fn first_cycle(reads: &[ReadOf]) -> u32
 /// The cycle of the last read, 0 if there is none.
 #[tactic(auto, using(crate::proofs::PolicyLemmas::last_is))]
 fn last_cycle(reads: &[ReadOf]) -> u32
-    ensures { result ≡ last_cycle (places_of reads.now) }
+    ensures { result ≡ last_cycle (places_read reads.now) }
 {
     if reads.is_empty() {
         return 0;
@@ -113,7 +113,7 @@ fn last_cycle(reads: &[ReadOf]) -> u32
 /// Whether a read comes too late after held ones.
 #[tactic(auto, unfolding(air_history::specs::Clashes::is_late))]
 pub fn is_late(policy: Policy, held: &[ReadOf], read: &ReadOf) -> bool
-    ensures { result ≡ is_late policy (places_of held.now) (place_of_line read.now) }
+    ensures { result ≡ is_late policy (places_read held.now) (place_of_line read.now) }
 {
     match policy {
         Policy::FMatrix | Policy::Datacycle => false,
@@ -127,8 +127,8 @@ pub fn test_of(replay: &Replay<'_>, held: &[ReadOf], read: &ReadOf) -> Option<Cl
     requires held { All (λ r. r.cycle ≤ starts replay.now.history) held.now }
     requires new { read.now.cycle ≤ starts replay.now.history }
     ensures new { IfSome result (NamesWithin (starts replay.now.history)) }
-    ensures told { clash_named replay.now.history result (places_of held.now)
-        ≡ clash_by_history replay.now.deck.settings.policy replay.now.history (places_of held.now) (place_of_line read.now) }
+    ensures told { clash_named replay.now.history result (places_read held.now)
+        ≡ clash_by_history replay.now.deck.settings.policy replay.now.history (places_read held.now) (place_of_line read.now) }
 {
     match replay.policy() {
         Policy::FMatrix => Some(ClashTest::ApartFrom(*read)),

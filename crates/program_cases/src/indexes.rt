@@ -2,7 +2,7 @@
 //!
 //! `index` takes the number of cycles before that one, and puts its records at the end of the kept tape. The transcript has these records.
 
-ghost use Rattle.std.specs.Prelude.{◌≡◌, ◌≤◌, ◌<◌, ◌+◌, ◌^◌, None, IfSome, IsTrue, length};
+ghost use Rattle.std.specs.Prelude.{◌≡◌, ◌≤◌, ◌+◌, None, IfSome, IsTrue, length};
 ghost use Rattle.air_index.specs.IndexedTapes.{AreBuckets, slots_after};
 ghost use Rattle.air_model.specs.Tapes.{tape_read};
 
@@ -36,12 +36,12 @@ fn count_buckets(tape: &[u8]) -> Option<u64>
 
 /// Whether a tape has a bucket for each slot of the cycle after the first ones, and no more.
 fn fits_cycle(plans: &Plans, first: u32, tape: &[u8]) -> bool
-    requires { first + 1 < 2 ^ 32 }
     ensures whole { IsTrue result → (tape_read tape.now).cut ≡ None }
     ensures counted { IsTrue result → length (tape_read tape.now).records ≡ slots_after plans.now first 1 }
     ensures grammar { IsTrue result → AreBuckets (tape_read tape.now).records }
 {
-    let slots = u64::from(plans.in_force(first + 1).slots());
+    let program = plans.in_force_by(u64::from(first) + 1);
+    let slots = u64::from(program.slots());
     match count_buckets(tape) {
         Some(count) => count == slots,
         None => false,
@@ -56,8 +56,7 @@ fn index(
     tape: &[u8],
     kept: &mut Vec<u8>,
 ) -> Result<bool, NoMemory>
-    requires items { length planned.now.items ≡ n }
-    requires last { first + 2 < 2 ^ 32 }
+    requires { length planned.now.items ≡ n }
     ensures begun { length kept.old.items ≤ length kept.new.items }
 {
     let plans = planned.plans();
@@ -82,7 +81,7 @@ pub fn tell_index(
 ) -> Result<(), NoMemory> {
     let first = parts.narrow();
     let before = kept.len();
-    if first > u32::MAX - 2 || !index(planned, planned.deck().items(), first, tape, kept)? {
+    if !index(planned, planned.deck().items(), first, tape, kept)? {
         return add_line(b"not this cycle", &[], came);
     }
     add_records(&kept[before..], came)

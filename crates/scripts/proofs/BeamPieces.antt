@@ -20,7 +20,7 @@ use Rattle.air_model.proofs.EditionLemmas.{slots_are}
 use Rattle.air_model.proofs.RangeLemmas.{bytes_aired}
 use Rattle.air_sender.specs.AiredBytes.{aired_bytes}
 use Rattle.air_sender.proofs.AiredLemmas.{range_more}
-use Rattle.air_sender.proofs.RunLoops.{few_starts, script_length}
+use Rattle.air_sender.proofs.RunLoops.{script_length}
 use Rattle.chunk_program.specs.Editions.{Plans, planned_slots, plans_in}
 use Rattle.chunk_program.proofs.EditionSteps.{slots_of_cycle}
 use Rattle.scripts.specs.Beamings.{IsBeaming, beamed_so_far, beamed_tape}
@@ -129,12 +129,6 @@ piece_beamed deck before now piece aired later =
 pub runs_on : (deck : Deck) (before after : PieceRun) → IsPieceRun deck before → IsPieceRun deck after → length before.events.items ≤ length after.events.items
     → starts before.events.items ≤ starts after.events.items
 runs_on deck before after was is on = starts_take (script_history deck) before.events.items after.events.items (length before.events.items) (length after.events.items) was.begun is.begun on
-
--- A run has few.
-pub runs_few : (deck : Deck) (r : PieceRun) → IsPieceRun deck r → length deck.script ≤ 200000 → starts r.events.items ≤ 200000
-runs_few deck r is few =
-    let within = is.within in
-    omega (arith, within, few, few_starts deck (length r.events.items) r.events.items is.begun)
 
 -- The plans and the number of items of a deck, the number of cycles that were aired before a piece, and that of its own.
 pub record IsBeamedWith (deck : Deck) (before now : List Event) (p : Plans) (n f c : ℕ) : Type 0 where

@@ -100,7 +100,7 @@ module _ (deck : Deck) (G : List Event) (source : Board) (from : AirsAfter deck 
   forced : p ≡ edition_disks deck (edition deck board.cycle)
   forced = in_force ∙ ap (λ c. edition_disks deck (edition deck c)) (source_cycle deck G source from)
 
-  slot_heard : (s : ℕ) → s < length (program p.disks) → IsTrue (fits (air_of deck) (on s)) × (bucket_in (spelling (on s)) ≡ Some (on s))
+  pub slot_heard : (s : ℕ) → s < length (program p.disks) → IsTrue (fits (air_of deck) (on s)) × (bucket_in (spelling (on s)) ≡ Some (on s))
   unfolding is_start
   slot_heard s l = start_heard deck G Start board refl own can refl source from form p formed forced s l
 

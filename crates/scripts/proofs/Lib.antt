@@ -13,3 +13,4 @@ mod LongestExamples
 mod HeardLemmas
 pub mod BeamPieces
 mod SourceLemmas
+mod PlaceRunLemmas

@@ -12,9 +12,9 @@ use Rattle.air_history.specs.Boards.{Board, board_of}
 use Rattle.air_model.specs.Aired.{scheme_in}
 use Rattle.air_model.specs.Decks.{Deck, IsDeck, values_in}
 use Rattle.air_sender.specs.BoardBuckets.{EntriesBelow, aired_board, spread}
+use Rattle.air_sender.specs.DeckGroups.{HasGroups}
 use Rattle.air_sender.proofs.AiredLemmas.{board_started, plain_board, started_board, values_kept}
 use Rattle.group_matrix.specs.GroupBoards.{GroupBoard, grouped}
-use Rattle.scripts.specs.PieceRuns.{FitsGroups}
 use Rattle.scripts.specs.Private.RunSteps.{AirsAfter}
 
 -- ---- what a scheme airs from
@@ -82,30 +82,30 @@ grouped_policy deck made some = elim made.grouped as (λ _. deck.settings.policy
 grouped_scheme : (p : Policy) (g : ℕ) → p ≡ FMatrix → 0 < g → airs_groups p g ≡ true
 grouped_scheme p g is some = ap (λ p. airs_groups p g) is ∙ lt-ltb 0 g some
 
-module _ (deck : Deck) (G : List Event) (e : Event) (board : Board) (is : board ≡ board_of (values_in deck) (G ++ e ∷ [])) (kept : Option GroupBoard) (has : FitsGroups deck kept) where
+module _ (deck : Deck) (G : List Event) (e : Event) (board : Board) (is : board ≡ board_of (values_in deck) (G ++ e ∷ [])) (kept : Option GroupBoard) (has : HasGroups deck kept) where
   -- without groups the board itself is aired
   pub plain_source : is_start e ≡ true → kept ≡ None → AirsAfter deck G board
-  plain_source start none = plain_board (scheme_in deck) board (subst (FitsGroups deck) none has) ∙ ap (aired_board (scheme_in deck)) (started_board deck G e board is start)
+  plain_source start none = plain_board (scheme_in deck) board (subst (HasGroups deck) none has) ∙ ap (aired_board (scheme_in deck)) (started_board deck G e board is start)
 
   -- with groups there are as many items,
   pub same_items : (before : GroupBoard) → kept ≡ Some before → length before.values ≡ length board.values
-  same_items before some = (subst (FitsGroups deck) some has).2 ∙ sym (values_kept deck board (G ++ e ∷ []) is)
+  same_items before some = (subst (HasGroups deck) some has).2 ∙ sym (values_kept deck board (G ++ e ∷ []) is)
 
   -- and the board by groups is aired, filled from the board
   pub group_source : (before now : GroupBoard) → IsDeck deck → is_start e ≡ true → kept ≡ Some before → now ≡ grouped before.group board → AirsAfter deck G (spread now)
   group_source before now made start some filled =
       let scheme = scheme_in deck in
-      let own = subst (FitsGroups deck) some has in
+      let own = subst (HasGroups deck) some has in
       ap spread (filled ∙ ap (λ g. grouped g board) own.1)
       ∙ ap (λ b. cond b (spread (grouped scheme.group board)) board) (sym (grouped_scheme deck.settings.policy deck.settings.group (grouped_policy deck made own.0) own.0))
       ∙ ap (aired_board scheme) (started_board deck G e board is start)
 
   -- by the policy that airs columns
   pub group_policy : (before : GroupBoard) → IsDeck deck → kept ≡ Some before → deck.settings.policy ≡ FMatrix
-  group_policy before made some = grouped_policy deck made (subst (FitsGroups deck) some has).0
+  group_policy before made some = grouped_policy deck made (subst (HasGroups deck) some has).0
 
   -- and is still as the deck wants it
-  pub still_grouped : (before now : GroupBoard) → kept ≡ Some before → now ≡ grouped before.group board → FitsGroups deck (Some now)
+  pub still_grouped : (before now : GroupBoard) → kept ≡ Some before → now ≡ grouped before.group board → HasGroups deck (Some now)
   still_grouped before now some filled =
-      let own = subst (FitsGroups deck) some has in
+      let own = subst (HasGroups deck) some has in
       (own.0, ap (λ (b : GroupBoard). b.group) filled ∙ own.1, ap (λ (b : GroupBoard). length b.values) filled ∙ values_kept deck board (G ++ e ∷ []) is)

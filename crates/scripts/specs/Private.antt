@@ -1,2 +1,3 @@
 -- Definitions that private steps alone speak of: no public contract cites them.
 pub mod RunSteps
+pub mod PlaceRuns

@@ -10,7 +10,6 @@ ghost use Rattle.air_sender.specs.TapeMasts.{told_by_tape};
 ghost use Rattle.bucket_codec.specs.declared.offsets.TheConstants.{HEAD_BYTES};
 ghost use Rattle.listeners.specs.declared.ethers.TheConstants.{MOST_TAPE_RECORDS};
 ghost use Rattle.listeners.specs.Hearings.{AreTogether};
-ghost use Rattle.scripts.specs.PieceRuns.{FitsGroups};
 ghost use Rattle.scripts.specs.Private.RunSteps.{AirsAfter, CanHearAfter};
 
 use air_base::NoMemory;
@@ -18,23 +17,8 @@ use air_sender::{
     Source, TapeMast, air_source, below_law, groups_below_law, own_cycle_law, own_form,
 };
 use chunk_program::Planned;
-use group_matrix::GroupBoard;
 use listeners::{Listener, all_hear_cycle};
 use std::alloc::Global;
-
-/// A board by groups, not filled yet, for a deck with groups; nothing for a deck without.
-pub(crate) fn groups_of(alloc: Global, planned: &Planned) -> Result<Option<GroupBoard>, NoMemory>
-    ensures { IfOk result (FitsGroups planned.now) }
-{
-    planned.shows_planned();
-    let deck = planned.deck();
-    let group = deck.settings().group;
-    if group == 0 {
-        return Ok(None);
-    }
-    let groups = GroupBoard::new(alloc, deck.items(), group)?;
-    Ok(Some(groups))
-}
 
 /// Airs the cycle of a source, with the program in force in it.
 pub(crate) fn air_from<S: Source>(

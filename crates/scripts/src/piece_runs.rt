@@ -14,20 +14,23 @@ ghost use Rattle.air_model.specs.Outputs.{script_tape};
 ghost use Rattle.bucket_codec.specs.declared.offsets.TheConstants.{HEAD_BYTES};
 ghost use Rattle.air_sender.specs.TapeMasts.{told_by_tape};
 ghost use Rattle.air_sender.specs.AiredBytes.{aired_bytes};
+ghost use Rattle.air_sender.specs.DeckGroups.{HasGroups};
 ghost use Rattle.listeners.specs.declared.ethers.TheConstants.{MOST_TAPE_RECORDS};
 ghost use Rattle.listeners.specs.Hearings.{AreTogether};
-ghost use Rattle.scripts.specs.PieceRuns.{FitsGroups, IsPieceRun};
+ghost use Rattle.listeners.specs.PlaceListeners.{AreGivenPlaces};
+ghost use Rattle.scripts.specs.PieceRuns.{IsPieceRun};
 ghost use Rattle.scripts.specs.Private.RunSteps.{CountsScripted};
 
-use crate::cycle_sources::{air_from, groups_of, hear_from};
+use crate::cycle_sources::{air_from, hear_from};
 use crate::parts::{count_part, event_at};
+use crate::place_cycles::hear_places_from;
 use air_base::NoMemory;
 use air_history::Event;
-use air_sender::{TapeMast, bucket_room};
+use air_sender::{TapeMast, bucket_room, groups_of};
 use chunk_program::Planned;
 use control_matrix::Board;
 use group_matrix::GroupBoard;
-use listeners::Listener;
+use listeners::{Listener, PlaceHearers};
 use std::alloc::Global;
 
 /// The events so far, how many of them are each updater's, their board, the board by groups of the last cycle if the deck has groups, and
@@ -150,6 +153,28 @@ impl PieceRun {
         Ok(listeners)
     }
 
+    /// Runs the next event, and lets all readers hear what it airs, each through its own ether. If memory runs out, the readers are dropped.
+    pub fn next_given(
+        &mut self,
+        alloc: Global,
+        planned: &Planned,
+        hearers: PlaceHearers,
+    ) -> Result<PlaceHearers, NoMemory>
+        requires kept { IsPieceRun planned.now self.old }
+        requires more { length self.old.events.items < length planned.now.script }
+        requires few { length (script_tape planned.now) ≤ MOST_TAPE_BYTES }
+        requires given { AreGivenPlaces planned.now (aired_bytes planned.now self.old.events.items) hearers }
+        ensures kept { OnOk result (IsPieceRun planned.now self.new) }
+        ensures one { OnOk result (length self.new.events.items ≡ length self.old.events.items + 1) }
+        ensures given { IfOk result (AreGivenPlaces planned.now (aired_bytes planned.now self.new.events.items)) }
+    {
+        planned.shows_planned();
+        let event = self.run_event(alloc, planned)?;
+        let hearers = self.give(alloc, planned, &event, hearers)?;
+        self.events.push(event)?;
+        Ok(hearers)
+    }
+
     /// Runs the next event, which isn't among the events yet: the board and what is counted are as after it.
     fn run_event(&mut self, alloc: Global, planned: &Planned) -> Result<Event, NoMemory>
         requires kept { IsPieceRun planned.now self.old }
@@ -182,11 +207,11 @@ impl PieceRun {
         requires stepped { self.old.board ≡ board_of (values_in planned.now) (self.old.events.items ++ event.now ∷ []) }
         requires can { CanAir planned.now (self.old.events.items ++ event.now ∷ []) }
         requires few { length (aired_bytes planned.now (self.old.events.items ++ event.now ∷ [])) ≤ MOST_TAPE_RECORDS }
-        requires groups { FitsGroups planned.now self.old.groups }
+        requires groups { HasGroups planned.now self.old.groups }
         requires room { length self.old.room.items ≡ HEAD_BYTES + entry_len planned.now.settings.version * length planned.now.items }
         requires heard { AreTogether planned.now (aired_bytes planned.now self.old.events.items) listeners.items }
         ensures heard { IfOk result (λ ls. AreTogether planned.now (aired_bytes planned.now (self.old.events.items ++ event.now ∷ [])) ls.items) }
-        ensures groups { FitsGroups planned.now self.new.groups }
+        ensures groups { HasGroups planned.now self.new.groups }
         ensures room { length self.new.room.items ≡ HEAD_BYTES + entry_len planned.now.settings.version * length planned.now.items }
         ensures events { self.new.events ≡ self.old.events }
         ensures made { self.new.made ≡ self.old.made }
@@ -205,6 +230,40 @@ impl PieceRun {
         }
     }
 
+    /// Lets all readers hear the cycle that an event starts, each through its own ether, as `hear` does.
+    fn give(
+        &mut self,
+        alloc: Global,
+        planned: &Planned,
+        event: &Event,
+        hearers: PlaceHearers,
+    ) -> Result<PlaceHearers, NoMemory>
+        requires stepped { self.old.board ≡ board_of (values_in planned.now) (self.old.events.items ++ event.now ∷ []) }
+        requires can { CanAir planned.now (self.old.events.items ++ event.now ∷ []) }
+        requires few { length (aired_bytes planned.now (self.old.events.items ++ event.now ∷ [])) ≤ MOST_TAPE_RECORDS }
+        requires groups { HasGroups planned.now self.old.groups }
+        requires room { length self.old.room.items ≡ HEAD_BYTES + entry_len planned.now.settings.version * length planned.now.items }
+        requires given { AreGivenPlaces planned.now (aired_bytes planned.now self.old.events.items) hearers }
+        ensures given { IfOk result (AreGivenPlaces planned.now (aired_bytes planned.now (self.old.events.items ++ event.now ∷ []))) }
+        ensures groups { HasGroups planned.now self.new.groups }
+        ensures room { length self.new.room.items ≡ HEAD_BYTES + entry_len planned.now.settings.version * length planned.now.items }
+        ensures events { self.new.events ≡ self.old.events }
+        ensures made { self.new.made ≡ self.old.made }
+        ensures board { self.new.board ≡ self.old.board }
+    {
+        if !event.is_start() {
+            return Ok(hearers);
+        }
+        planned.shows_planned();
+        match &mut self.groups {
+            None => hear_places_from(alloc, planned, &self.board, hearers, &mut self.room),
+            Some(groups) => {
+                groups.fill(&self.board);
+                hear_places_from(alloc, planned, &*groups, hearers, &mut self.room)
+            }
+        }
+    }
+
     /// Airs the cycle that an event starts, from the board that the event leaves, or from its board by groups if the deck has groups; a commit
     /// starts none.
     fn air(
@@ -214,11 +273,11 @@ impl PieceRun {
         piece: &mut TapeMast,
     ) -> Result<(), NoMemory>
         requires stepped { self.old.board ≡ board_of (values_in planned.now) (self.old.events.items ++ event.now ∷ []) }
-        requires groups { FitsGroups planned.now self.old.groups }
+        requires groups { HasGroups planned.now self.old.groups }
         requires room { length self.old.room.items ≡ HEAD_BYTES + entry_len planned.now.settings.version * length planned.now.items }
         ensures aired { (before : List (List ℕ)) → aired_bytes planned.now self.old.events.items ≡ before ++ (told_by_tape piece.old).buckets →
             OnOk result (aired_bytes planned.now (self.old.events.items ++ event.now ∷ []) ≡ before ++ (told_by_tape piece.new).buckets) }
-        ensures groups { FitsGroups planned.now self.new.groups }
+        ensures groups { HasGroups planned.now self.new.groups }
         ensures room { length self.new.room.items ≡ HEAD_BYTES + entry_len planned.now.settings.version * length planned.now.items }
         ensures events { self.new.events ≡ self.old.events }
         ensures made { self.new.made ≡ self.old.made }

@@ -1,6 +1,7 @@
 //! A deck's script on the air piece by piece, with an index record ahead of each minor cycle, and without readers.
 
-ghost use Rattle.std.specs.Prelude.{◌≡◌, ◌↔◌, ◌<◌, ◌≤◌, ◌++◌, [], false, IfOk, IsTrue, OnOk, length};
+ghost use Rattle.std.specs.Prelude.{◌≡◌, ◌↔◌, ◌<◌, ◌≤◌, ◌+◌, ◌++◌, [], false, IfOk, IsTrue, OnOk, length};
+ghost use Rattle.air_history.specs.Histories.{starts};
 ghost use Rattle.air_model.specs.Decks.{script_history};
 ghost use Rattle.scripts.specs.Beamings.{IsBeaming, beamed_so_far};
 
@@ -28,6 +29,7 @@ impl ScriptBeaming {
         ensures kept { IfOk result (IsBeaming planned.now) }
         ensures empty { IfOk result (λ b. b.run.events.items ≡ []) }
         ensures nothing { IfOk result (λ b. beamed_so_far planned.now b ≡ []) }
+        ensures size { IfOk result (λ b. b.cycles ≡ cycles) }
     {
         let bytes = u64::from(cycles) * longest_cycle(planned);
         Ok(ScriptBeaming {
@@ -61,6 +63,9 @@ impl ScriptBeaming {
         ensures kept { OnOk result (IsBeaming planned.now self.new) }
         ensures beamed { OnOk result (beamed_so_far planned.now self.new ≡ beamed_so_far planned.now self.old ++ self.new.beamed.items) }
         ensures on { OnOk result (length self.old.run.events.items < length self.new.run.events.items) }
+        ensures size { OnOk result (self.new.cycles ≡ self.old.cycles) }
+        ensures cycles { OnOk result (starts self.new.run.events.items ≤ starts self.old.run.events.items + self.old.cycles) }
+        ensures full { OnOk result (length self.new.run.events.items < length planned.now.script → starts self.new.run.events.items ≡ starts self.old.run.events.items + self.old.cycles) }
     {
         planned.shows_planned();
         let before = self.run.cycles();

@@ -12,12 +12,12 @@ ghost use Rattle.scripts.specs.Sinks.{StopsAt};
 use crate::piece_runs::PieceRun;
 use crate::script_airing::ScriptAiring;
 use crate::script_beaming::ScriptBeaming;
-use crate::sinks::{Discard, PieceSink};
+use crate::sinks::PieceSink;
 use crate::sizes::piece_cycles;
 use air_base::NoMemory;
 use air_history::Event;
 use chunk_program::Planned;
-use listeners::{Sessions, end_all, is_perfect, listeners_of};
+use listeners::{PlaceHearers, Sessions, end_all, is_perfect, listeners_of};
 use std::alloc::Global;
 use std::thread::Threads;
 
@@ -76,7 +76,7 @@ pub fn beam_script<P, S: PieceSink<P>>(
 
 /// Airs the script of a deck without its tape: the readers hear what is aired, and nothing else is made of it.
 pub fn hear_script<T: Threads + Sync>(
-    threads: &T,
+    _threads: &T,
     alloc: Global,
     planned: &Planned,
 ) -> Result<AiredScript, NoMemory>
@@ -88,7 +88,7 @@ pub fn hear_script<T: Threads + Sync>(
     if is_perfect(planned.deck()) {
         return hear_perfect_script(alloc, planned);
     }
-    air_script(threads, alloc, planned, &Discard, &mut ())
+    hear_given_script(alloc, planned)
 }
 
 /// The same if nothing of what is aired is lost, heard again or delayed: the readers hear it from the board.
@@ -106,6 +106,26 @@ fn hear_perfect_script(alloc: Global, planned: &Planned) -> Result<AiredScript, 
         listeners = run.next_heard(alloc, planned, listeners)?;
     }
     let sessions = end_all(alloc, listeners)?;
+    Ok(AiredScript {
+        events: run.events,
+        sessions,
+    })
+}
+
+/// The same through ethers: each reader hears what its ether gives by places, from the board of each cycle.
+fn hear_given_script(alloc: Global, planned: &Planned) -> Result<AiredScript, NoMemory>
+    requires { length (script_tape planned.now) ≤ MOST_TAPE_BYTES }
+    ensures events { IfOk result (λ s. s.events.items ≡ script_history planned.now) }
+    ensures verdicts { IfOk result (λ s. s.sessions.verdicts.items ≡ verdict_lines (true_sessions planned.now (script_history planned.now))) }
+    ensures counts { IfOk result (λ s. s.sessions.counts.items ≡ counts_lines (true_sessions planned.now (script_history planned.now))) }
+{
+    planned.shows_planned();
+    let mut run = PieceRun::new(alloc, planned)?;
+    let mut hearers = PlaceHearers::new(alloc, planned)?;
+    while !run.is_done(planned) {
+        hearers = run.next_given(alloc, planned, hearers)?;
+    }
+    let sessions = hearers.end(alloc)?;
     Ok(AiredScript {
         events: run.events,
         sessions,

@@ -113,7 +113,7 @@ fn air_to_output<T: Threads + Sync, S: Shelf>(
     Ok(text)
 }
 
-/// The text of the report of a deck's script, whose tape goes nowhere: no bucket is encoded that no reader opens.
+/// The text of the report of a deck's script, whose tape goes nowhere: few buckets are encoded that no reader opens.
 fn hear_to_text<T: Threads + Sync>(
     threads: &T,
     alloc: Global,

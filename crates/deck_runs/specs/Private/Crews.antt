@@ -9,7 +9,7 @@ use Rattle.air_model.specs.declared.reports.LookLine.{LookLine}
 use Rattle.bucket_codec.specs.declared.offsets.TheConstants.{HEAD_BYTES}
 use Rattle.station.specs.PassStates.{PassState, new_pass, with_seen}
 use Rattle.cycle_snapshot.specs.SnapshotStates.{MonitorState}
-use Rattle.group_matrix.specs.GroupBoards.{GroupBoard}
+use Rattle.air_sender.specs.DeckGroups.{HasGroups}
 use Rattle.deck_runs.specs.declared.jobs.crews.ConductorRun.{ConductorRun}
 use Rattle.deck_runs.specs.declared.jobs.crews.UpdaterRun.{UpdaterRun}
 use Rattle.deck_runs.specs.declared.jobs.crews.MonitorRun.{MonitorRun}
@@ -22,11 +22,6 @@ passes_of updaters = map (λ run. run.pass) updaters
 -- The monitors of watchers.
 abbrev pub monitors_of : List MonitorRun → List MonitorState
 monitors_of watchers = map (λ run. run.monitor) watchers
-
--- There is a board by groups if the deck has groups, and only then. It has the deck's items, in groups of the deck's size.
-abbrev pub HasGroups : Deck → Option GroupBoard → Type 0
-HasGroups deck None = deck.settings.group ≡ 0
-HasGroups deck (Some groups) = (groups.group ≡ deck.settings.group) × (1 ≤ groups.group) × (length groups.values ≡ length deck.items)
 
 -- The pass is the new one of the station's and the deck's conductor, the board is that of the first values, the buffer has room for a bucket, and
 -- there is what the deck's groups need.

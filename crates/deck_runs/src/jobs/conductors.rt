@@ -6,7 +6,7 @@ ghost use Rattle.air_model.specs.Aired.{Air};
 ghost use Rattle.deck_runs.specs.PublishedBatches.{AreInStep, GoesOn, IsBoardOf, IsPublishedUpTo, PublishesOn};
 ghost use Rattle.deck_runs.specs.Sendings.{CanAirIn, IsAirOf, IsFailure, SendsCycles, SendsUpTo};
 
-use crate::jobs::airings::Airing;
+use crate::jobs::airings::{Airing, WithoutGroups};
 use crate::jobs::cycles::conduct_cycle;
 use crate::jobs::means::Means;
 use air_base::{Form, NoMemory};
@@ -76,7 +76,7 @@ pub fn conductor_job<R: Wait, M: Mast, G: Gate>(
     ensures port { (M.state mast.new).port ≡ (M.state mast.old).port }
     ensures buffer { length buf.new ≡ length buf.old }
 {
-    let mut no_groups: Option<GroupBoard> = None;
+    let mut airing = WithoutGroups;
     conduct_all(
         wait,
         alloc,
@@ -84,7 +84,7 @@ pub fn conductor_job<R: Wait, M: Mast, G: Gate>(
         pass,
         publisher,
         board,
-        &mut no_groups,
+        &mut airing,
         plans,
         form,
         cycles,
@@ -136,7 +136,7 @@ pub fn group_conductor_job<R: Wait, M: Mast, G: Gate>(
 }
 
 /// Conducts this number of cycles, aired from the board or from its groups.
-pub(crate) fn conduct_all<R: Wait, A: Airing, M: Mast, G: Gate>(
+fn conduct_all<R: Wait, A: Airing, M: Mast, G: Gate>(
     wait: &R,
     alloc: Global,
     station: &Station,

@@ -10,7 +10,7 @@ ghost use Rattle.deck_runs.specs.declared.jobs.TheConstants.{LOOKS};
 ghost use Rattle.deck_runs.specs.Private.StageSteps.{HasAired};
 
 use crate::jobs::LOOKS;
-use crate::jobs::conductors::{ConductFault, conduct_all};
+use crate::jobs::conductors::{ConductFault, conductor_job, group_conductor_job};
 use crate::jobs::monitors::monitor_job;
 use crate::jobs::updaters::updater_job;
 use air_base::limits::{MOST_MONITORS, MOST_UPDATERS};
@@ -53,22 +53,21 @@ impl ConductorRun {
         requires publisher { publisher.old ≡ new_publisher publisher.old.id (values_in planned.now) planned.now.settings.cycles }
         ensures { HasAired M.state planned.now self.old.pass self.new.pass publisher.old publisher.new mast.old mast.new result }
     {
-        let settings = planned.deck().settings();
-        conduct_all(
-            wait,
-            alloc,
-            station,
-            &mut self.pass,
-            publisher,
-            &mut self.board,
-            &mut self.groups,
-            planned.plans(),
-            own_form(planned),
-            settings.cycles,
-            mast,
-            &mut self.buf,
-            gate,
-        )
+        let cycles = planned.deck().settings().cycles;
+        let plans = planned.plans();
+        let form = own_form(planned);
+        let pass = &mut self.pass;
+        let board = &mut self.board;
+        let buf = &mut self.buf;
+        match &mut self.groups {
+            None => conductor_job(
+                wait, alloc, station, pass, publisher, board, plans, form, cycles, mast, buf, gate,
+            ),
+            Some(groups) => group_conductor_job(
+                wait, alloc, station, pass, publisher, board, groups, plans, form, cycles, mast,
+                buf, gate,
+            ),
+        }
     }
 }
 

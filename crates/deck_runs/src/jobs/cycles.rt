@@ -1,4 +1,4 @@
-//! One cycle of a conductor: it starts, its events change the board, their batch is published, and its buckets are sent.
+//! One cycle of a conductor: it starts, its events change the board, the groups are filled, the batch is published, and the buckets are sent.
 ghost use Rattle.std.specs.Prelude.{◌≡◌, ℕ, ◌<◌, ◌≤◌, ◌+◌, ◌-◌, ◌^◌, ◌++◌, ◌∷◌, List, [], length, All, IfErr, IfOk, MatchResult, OnErr, OnOk};
 ghost use Rattle.air_base.specs.declared.limits.TheConstants.{MOST_SLOTS};
 ghost use Rattle.air_history.specs.declared.histories.Event.{Event};
@@ -32,6 +32,7 @@ fn apply_all(board: &mut Board, events: &[Event])
     requires fits { All (ItemsFit (length board.old.values)) events.now }
     requires room { board.old.cycle + starts events.now + 1 < 2 ^ 32 }
     ensures stepped { board.new ≡ step_all board.old events.now }
+    ensures sized { length board.new.values ≡ length board.old.values }
     ensures bases { All BasesRead events.now }
 {
     for event in events {
@@ -58,17 +59,22 @@ fn start_fresh<R: Wait>(
     Ok(fresh)
 }
 
-/// Starts a cycle, applies its events to the board, and publishes them as one batch. If the publisher refuses them, the board still has them.
-fn begin_cycle<R: Wait>(
+/// Starts a cycle, applies its events to the board, fills from the board what the cycle is aired from, and publishes the events as one batch. If the
+/// publisher refuses them, the board still has them.
+fn begin_cycle<R: Wait, A: Airing>(
     means: &Means<'_, R>,
     pass: &mut ConductorPass,
     publisher: &mut Publisher,
     board: &mut Board,
+    airing: &mut A,
 ) -> Result<(), NoMemory>
     requires own { pass.old.station ≡ means.now.station.now }
     requires step { AreInStep pass.old publisher.old board.old }
     requires room { (starts pass.old.seen < publisher.old.most) × (starts pass.old.seen + 2 < 2 ^ 32) }
+    requires suits { A.suits airing.old (length pass.old.values) means.now.form }
     ensures pass { GoesOn pass.old pass.new }
+    ensures kept { (A.group airing.new ≡ A.group airing.old) × A.suits airing.new (length pass.old.values) means.now.form }
+    ensures ready { OnOk result (A.ready airing.new board.new) }
     ensures begun { OnOk result (AreInStep pass.new publisher.new board.new × AddsBatch publisher.old publisher.new) }
     ensures stopped { OnErr result ((publisher.new ≡ publisher.old) × IsPublishedUpTo pass.new.seen publisher.new.batches fault.NoMemory) }
     ensures board { IsBoardOf pass.new board.new }
@@ -79,6 +85,7 @@ fn begin_cycle<R: Wait>(
 {
     let fresh = start_fresh(means, pass)?;
     apply_all(board, &fresh);
+    airing.fill_from(board);
     publisher.publish(means.wait, fresh)?;
     below_law();
     groups_below_law();
@@ -126,7 +133,7 @@ pub fn conduct_cycle<R: Wait, A: Airing, M: Mast>(
     ensures port { (M.state mast.new).port ≡ (M.state mast.old).port }
     ensures buffer { length buf.new ≡ length buf.old }
 {
-    begin_cycle(means, pass, publisher, board)?;
+    begin_cycle(means, pass, publisher, board, airing)?;
     let program = means.plans.in_force(board.cycle());
     let slots = program.slots();
     match airing.air(program, board, means.form, mast, buf) {

@@ -1,27 +1,14 @@
-//! What is made before the jobs run: a board by groups, an updater for each pass, and a watcher for each monitor.
+//! What is made before the jobs run: an updater for each pass, and a watcher for each monitor.
 ghost use Rattle.std.specs.Prelude.{◌≡◌, ℕ, length, slice_get, All, IfOk, Some};
 ghost use Rattle.station.specs.PassStates.{PassState, new_pass};
-ghost use Rattle.deck_runs.specs.Private.Crews.{HasGroups, HasNewPass, passes_of, monitors_of};
+ghost use Rattle.deck_runs.specs.Private.Crews.{HasNewPass, passes_of, monitors_of};
 
 use crate::jobs::crews::{MonitorRun, UpdaterRun};
 use air_base::NoMemory;
 use cycle_snapshot::Monitor;
-use group_matrix::GroupBoard;
 use item_catalog::Deck;
 use station::{Station, UpdaterPass};
 use std::alloc::Global;
-
-/// A board by groups for the deck's conductor, if the deck has groups.
-pub fn groups_of(alloc: Global, deck: &Deck) -> Result<Option<GroupBoard>, NoMemory>
-    ensures { IfOk result (HasGroups deck.now) }
-{
-    deck.shows_well_made();
-    let settings = deck.settings();
-    if settings.group == 0 {
-        return Ok(None);
-    }
-    Ok(Some(GroupBoard::new(alloc, deck.items(), settings.group)?))
-}
 
 /// An updater for each of the passes, in their order.
 fn with_passes(alloc: Global, passes: Vec<UpdaterPass>) -> Result<Vec<UpdaterRun>, NoMemory>

@@ -4,10 +4,11 @@ ghost use Rattle.std.specs.Prelude.{◌≡◌, ◌↔◌, ◌<◌, ◌≤◌, �
 ghost use Rattle.air_history.specs.Boards.{board_of};
 ghost use Rattle.air_model.specs.Decks.{values_in};
 ghost use Rattle.air_model.specs.Buckets.{entry_len};
+ghost use Rattle.air_sender.specs.DeckGroups.{HasGroups};
 ghost use Rattle.bucket_codec.specs.declared.offsets.TheConstants.{HEAD_BYTES};
 ghost use Rattle.cycle_snapshot.specs.SnapshotStates.{MonitorState, new_monitor, new_publisher};
 ghost use Rattle.std.specs.Thread.{IsSync};
-ghost use Rattle.deck_runs.specs.Private.Crews.{EachDone, EachWatched, HasGroups, HasNewPass, passes_of};
+ghost use Rattle.deck_runs.specs.Private.Crews.{EachDone, EachWatched, HasNewPass, passes_of};
 ghost use Rattle.deck_runs.specs.declared.jobs.crews.MonitorRun.{MonitorRun as Watcher};
 ghost use Rattle.deck_runs.specs.declared.jobs.crews.UpdaterRun.{UpdaterRun as Updater};
 ghost use Rattle.deck_runs.specs.declared.jobs.TheConstants.{LOOKS};
@@ -15,11 +16,11 @@ ghost use Rattle.deck_runs.specs.Private.StageSteps.{HasAired, BeginsWhole, IsEn
 
 use crate::jobs::conductors::ConductFault;
 use crate::jobs::crews::{ConductorRun, MonitorRun, UpdaterRun, update_and_watch};
-use crate::jobs::openings::{groups_of, updaters_of, watchers_of};
+use crate::jobs::openings::{updaters_of, watchers_of};
 use air_base::NoMemory;
 use air_devices::{Gate, Mast};
 use air_history::History;
-use air_sender::bucket_room;
+use air_sender::{bucket_room, groups_of};
 use chunk_program::Planned;
 use control_matrix::Board;
 use cycle_snapshot::{Monitor, Publisher, publisher};
@@ -56,7 +57,7 @@ fn conductor_of(
         pass,
         board: Board::new(alloc, &values)?,
         buf: vec![in alloc; 0; bucket_room(planned)]?,
-        groups: groups_of(alloc, deck)?,
+        groups: groups_of(alloc, planned)?,
     })
 }
 

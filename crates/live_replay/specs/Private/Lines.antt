@@ -4,7 +4,7 @@ use Rattle.air_base.specs.declared.verdicts.VerdictKind.{VerdictKind}
 use Rattle.air_base.specs.declared.verdicts.VerdictKind.TheVariants.{Accept, Abort, Aged, Unfinished}
 use Rattle.air_history.specs.Reads.{IsRead}
 use Rattle.air_model.specs.declared.reports.VerdictLine.{VerdictLine}
-use Rattle.live_replay.specs.Findings.{places_of}
+use Rattle.live_replay.specs.Findings.{places_read}
 use Rattle.live_replay.specs.Private.Groups.{IsItemRead}
 
 -- The cycle of a refused read is no later than the last start. An abort's is from 1 on, and its item is below n.
@@ -18,6 +18,6 @@ EndFits n starts Unfinished = ⊤
 pub record LineFits (n starts : ℕ) (line : VerdictLine) : Type 0 where
   pub items : All (λ r. r.item < n) line.reads
   pub reads : All (IsItemRead n) line.reads
-  pub begun : All IsRead (places_of line.reads)
+  pub begun : All IsRead (places_read line.reads)
   pub within : All (λ r. r.cycle ≤ starts) line.reads
   pub end : EndFits n starts line.verdict.kind

@@ -1,5 +1,4 @@
-use Rattle.std.proofs.Common.{◌≡◌, ◌≤◌, ◌+◌, ◌-◌, ◌*◌, ℕ, length, ap, sym, ◌∙◌, arith}
-use Rattle.air_model.specs.Disks.{Disk}
+use Rattle.std.proofs.Common.{◌≡◌, ◌+◌, ◌-◌, ◌*◌, length, ap, sym, ◌∙◌, arith}
 use Rattle.air_model.specs.Programs.{num_minors, program}
 use Rattle.air_index.proofs.SizeLemmas.{edition_sum, ends_later, minors_within, sum_fits}
 use Rattle.air_index.proofs.counts.beam_counts.Goals as goal

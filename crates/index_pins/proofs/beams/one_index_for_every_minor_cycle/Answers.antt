@@ -1,23 +1,18 @@
-use Rattle.std.proofs.Common.{◌∙◌, length, ap, sym, subst}
-use Rattle.air_model.specs.Tapes.{TapeRead}
-use Rattle.chunk_program.specs.Editions.{HaveItems, Plans}
-use Rattle.air_index.specs.IndexedTapes.{AreBuckets, slots_after}
 use Rattle.index_pins.specs.ShortPlans.{two_disks, two_minor_cycles, whole}
-use Rattle.index_pins.proofs.BeamPins.{disks_written, four_read, slots_are, two_on_disks, written_is}
+use Rattle.index_pins.proofs.BeamPins.{disks_can, disks_written, handed, written_is}
 use Rattle.index_pins.proofs.beams.one_index_for_every_minor_cycle.Goals as goal
 
 pub beam_tape-requires-clause-items : goal.beam_tape-requires-clause-items
-beam_tape-requires-clause-items c = subst (λ (p : Plans). HaveItems 2 p.programs) (sym c.requires.plans) two_on_disks
+beam_tape-requires-clause-items c = (handed disks_can c.requires.plans c.requires.tape).items
 
 pub beam_tape-requires-clause-whole : goal.beam_tape-requires-clause-whole
-beam_tape-requires-clause-whole c = ap (λ (t : TapeRead). t.cut) c.requires.tape
+beam_tape-requires-clause-whole c = (handed disks_can c.requires.plans c.requires.tape).whole
 
 pub beam_tape-requires-clause-counted : goal.beam_tape-requires-clause-counted
-beam_tape-requires-clause-counted c =
-    ap (λ (t : TapeRead). length t.records) c.requires.tape ∙ sym (ap (λ (p : Plans). slots_after p 0 1) c.requires.plans ∙ slots_are.1)
+beam_tape-requires-clause-counted c = (handed disks_can c.requires.plans c.requires.tape).counted
 
 pub beam_tape-requires-clause-grammar : goal.beam_tape-requires-clause-grammar
-beam_tape-requires-clause-grammar c = subst (λ (t : TapeRead). AreBuckets t.records) (sym c.requires.tape) four_read
+beam_tape-requires-clause-grammar c = (handed disks_can c.requires.plans c.requires.tape).grammar
 
 pub returns : goal.returns
 returns c = written_is c.beam_tape.result _ _ _ _ two_disks _ (whole two_minor_cycles) 2 0 1 c.beam_tape.ensures.written c.requires.plans c.requires.tape disks_written

@@ -1,19 +1,14 @@
-use Rattle.std.proofs.Common.{◌∙◌, length, ap, sym, subst}
-use Rattle.air_model.specs.Tapes.{TapeRead}
-use Rattle.chunk_program.specs.Editions.{HaveItems, Plans}
-use Rattle.air_index.specs.IndexedTapes.{AreBuckets, slots_after}
-use Rattle.index_pins.proofs.BeamPins.{slots_are, two_held, two_read}
+use Rattle.index_pins.proofs.BeamPins.{handed, two_can}
 use Rattle.index_pins.proofs.beams.tape_left_half.Goals as goal
 
 pub beam_tape-requires-clause-items : goal.beam_tape-requires-clause-items
-beam_tape-requires-clause-items c = subst (λ (p : Plans). HaveItems 2 p.programs) (sym c.requires.plans) two_held
+beam_tape-requires-clause-items c = (handed two_can c.requires.plans c.requires.tape).items
 
 pub beam_tape-requires-clause-whole : goal.beam_tape-requires-clause-whole
-beam_tape-requires-clause-whole c = ap (λ (t : TapeRead). t.cut) c.requires.tape
+beam_tape-requires-clause-whole c = (handed two_can c.requires.plans c.requires.tape).whole
 
 pub beam_tape-requires-clause-counted : goal.beam_tape-requires-clause-counted
-beam_tape-requires-clause-counted c =
-    ap (λ (t : TapeRead). length t.records) c.requires.tape ∙ sym (ap (λ (p : Plans). slots_after p 0 1) c.requires.plans ∙ slots_are.0)
+beam_tape-requires-clause-counted c = (handed two_can c.requires.plans c.requires.tape).counted
 
 pub beam_tape-requires-clause-grammar : goal.beam_tape-requires-clause-grammar
-beam_tape-requires-clause-grammar c = subst (λ (t : TapeRead). AreBuckets t.records) (sym c.requires.tape) two_read
+beam_tape-requires-clause-grammar c = (handed two_can c.requires.plans c.requires.tape).grammar

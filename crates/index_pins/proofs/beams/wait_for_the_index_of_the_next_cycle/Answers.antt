@@ -1,23 +1,18 @@
-use Rattle.std.proofs.Common.{◌∙◌, length, ap, sym, subst}
-use Rattle.air_model.specs.Tapes.{TapeRead}
-use Rattle.chunk_program.specs.Editions.{HaveItems, Plans}
-use Rattle.air_index.specs.IndexedTapes.{AreBuckets, slots_after}
 use Rattle.index_pins.specs.ShortPlans.{two_disks, two_minor_cycles, whole}
-use Rattle.index_pins.proofs.BeamPins.{four_read, later_written, slots_are, two_on_disks, written_is}
+use Rattle.index_pins.proofs.BeamPins.{handed, later_can, later_written, written_is}
 use Rattle.index_pins.proofs.beams.wait_for_the_index_of_the_next_cycle.Goals as goal
 
 pub beam_piece-requires-clause-items : goal.beam_piece-requires-clause-items
-beam_piece-requires-clause-items c = subst (λ (p : Plans). HaveItems 2 p.programs) (sym c.requires.plans) two_on_disks
+beam_piece-requires-clause-items c = (handed later_can c.requires.plans c.requires.tape).items
 
 pub beam_piece-requires-clause-whole : goal.beam_piece-requires-clause-whole
-beam_piece-requires-clause-whole c = ap (λ (t : TapeRead). t.cut) c.requires.tape
+beam_piece-requires-clause-whole c = (handed later_can c.requires.plans c.requires.tape).whole
 
 pub beam_piece-requires-clause-counted : goal.beam_piece-requires-clause-counted
-beam_piece-requires-clause-counted c =
-    ap (λ (t : TapeRead). length t.records) c.requires.tape ∙ sym (ap (λ (p : Plans). slots_after p 3 1) c.requires.plans ∙ slots_are.2)
+beam_piece-requires-clause-counted c = (handed later_can c.requires.plans c.requires.tape).counted
 
 pub beam_piece-requires-clause-grammar : goal.beam_piece-requires-clause-grammar
-beam_piece-requires-clause-grammar c = subst (λ (t : TapeRead). AreBuckets t.records) (sym c.requires.tape) four_read
+beam_piece-requires-clause-grammar c = (handed later_can c.requires.plans c.requires.tape).grammar
 
 pub returns : goal.returns
 returns c = written_is c.beam_piece.result _ _ _ _ two_disks _ (whole two_minor_cycles) 2 3 1 c.beam_piece.ensures.written c.requires.plans c.requires.tape later_written

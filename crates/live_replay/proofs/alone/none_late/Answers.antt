@@ -3,7 +3,7 @@ use Rattle.air_history.specs.Histories.{ItemsFit, event_at, reads, writes_of}
 use Rattle.air_history.specs.Reads.{origin}
 use Rattle.air_history.proofs.ColumnLemmas.{writes_fit}
 use Rattle.air_history.proofs.MarkLemmas.{Forgets, Seeks, forgets_of, seeks_of}
-use Rattle.live_replay.specs.Findings.{places_of}
+use Rattle.live_replay.specs.Findings.{places_read}
 use Rattle.live_replay.specs.Private.Alone.{first_or_none, is_met}
 use Rattle.live_replay.proofs.AloneLemmas.{consistent_fails, origins_within}
 use Rattle.live_replay.proofs.BackwardLemmas.{IsPassed, met_alone, passed_all, passed_more, passed_none, passed_skip}
@@ -13,17 +13,17 @@ use Rattle.live_replay.proofs.alone.none_late.Goals as goal
 pub end_of-end-requires : goal.end_of-end-requires
 end_of-end-requires c =
     let H = c.args.events.now in
-    subst (All (λ o. IfSome o (λ w. w < length H))) (sym c.requires.origins) (origins_within H (places_of c.args.reads.now))
+    subst (All (λ o. IfSome o (λ w. w < length H))) (sym c.requires.origins) (origins_within H (places_read c.args.reads.now))
 
 pub loop-at-init : goal.loop-at-init
 loop-at-init c =
-    passed_none c.args.events.now (places_of c.args.reads.now) c.end_of-end.result c.args.sought.now c.requires.clear
+    passed_none c.args.events.now (places_read c.args.reads.now) c.end_of-end.result c.args.sought.now c.requires.clear
     (subst (All (λ o. IfSome o (λ w. w < c.end_of-end.result))) c.requires.origins c.end_of-end.ensures.all)
 
 pub returns : goal.returns
 returns c =
     let H = c.args.events.now in
-    sym (passed_all H (places_of c.args.reads.now) c.first_of-first.result c.loop-at.at c.loop-at.sought (omega arith)
+    sym (passed_all H (places_read c.args.reads.now) c.first_of-first.result c.loop-at.at c.loop-at.sought (omega arith)
     (subst (All (λ o. c.first_of-first.result ≤ first_or_none o)) c.requires.origins c.first_of-first.ensures) c.loop-at.invariant)
 
 pub is_met-requires-clause-fits : goal.is_met-requires-clause-fits
@@ -44,7 +44,7 @@ seek_read-requires c =
 pub returns-then-overwrites_read : goal.returns-then-overwrites_read
 returns-then-overwrites_read c =
     let H = c.args.events.now in
-    let R = places_of c.args.reads.now in
+    let R = places_read c.args.reads.now in
     let at : ℕ = c.loop-at.at - 1 in
     let m : IsPassed H R (at + 1) c.loop-at.sought = subst (λ k. IsPassed H R k c.loop-at.sought) (omega arith) c.loop-at.invariant in
     let met : is_met H (map (origin H) R) at c.loop-at.sought ≡ true = ap (λ os. is_met H os at c.loop-at.sought) (sym c.requires.origins) ∙ sym c.is_met.ensures ∙ c.if-is_met.true in
@@ -53,7 +53,7 @@ returns-then-overwrites_read c =
 pub loop-at-preserved-then-is_met : goal.loop-at-preserved-then-is_met
 loop-at-preserved-then-is_met c =
     let H = c.args.events.now in
-    let R = places_of c.args.reads.now in
+    let R = places_read c.args.reads.now in
     let at : ℕ = c.loop-at.at - 1 in
     let lt : at < length H = omega arith in
     let old = c.loop-at.sought in
@@ -68,7 +68,7 @@ loop-at-preserved-then-is_met c =
 pub loop-at-preserved : goal.loop-at-preserved
 loop-at-preserved c =
     let H = c.args.events.now in
-    let R = places_of c.args.reads.now in
+    let R = places_read c.args.reads.now in
     let at : ℕ = c.loop-at.at - 1 in
     let m : IsPassed H R (at + 1) c.loop-at.sought = subst (λ k. IsPassed H R k c.loop-at.sought) (omega arith) c.loop-at.invariant in
     let miss : is_met H (map (origin H) R) at c.loop-at.sought ≡ false = ap (λ os. is_met H os at c.loop-at.sought) (sym c.requires.origins) ∙ sym c.is_met.ensures ∙ c.if-is_met.false in

@@ -4,18 +4,18 @@ use Rattle.air_base.specs.declared.verdicts.ReadOf.{ReadOf}
 use Rattle.air_history.specs.Histories.{writes}
 use Rattle.air_history.specs.Reads.{ReadAt, origin}
 use Rattle.air_history.proofs.ScanLemmas.{event_read}
-use Rattle.live_replay.specs.Findings.{place_of_line, places_of, read_in_cycle}
+use Rattle.live_replay.specs.Findings.{place_of_line, places_read, read_in_cycle}
 use Rattle.live_replay.specs.Private.Alone.{is_after}
 use Rattle.live_replay.proofs.AloneLemmas.{is_late_for, late_here, late_more, late_none}
 use Rattle.live_replay.proofs.alone.overwrites_read.Goals as goal
 use Rattle.live_replay.proofs.alone.overwrites_read.Goals.{After-writes_after}
 
 -- The test is whether the commit comes late for this read.
-told : (c : After-writes_after) → is_late_for c.args.events.now (places_of c.args.reads.now) c.args.place (get_or (places_of c.args.reads.now) c.loop-k.k (read_in_cycle 0 0)) ≡ c.writes_after.result
+told : (c : After-writes_after) → is_late_for c.args.events.now (places_read c.args.reads.now) c.args.place (get_or (places_read c.args.reads.now) c.loop-k.k (read_in_cycle 0 0)) ≡ c.writes_after.result
 told c =
     let H = c.args.events.now in
     let reads = c.args.reads.now in
-    let R = places_of reads in
+    let R = places_read reads in
     let p = c.args.place in
     let n = c.loop-k.k in
     let d : ReadOf = record { item = 0; cycle = 0; value = 0 } in
@@ -29,15 +29,15 @@ told c =
 
 pub returns-then-writes_after : goal.returns-then-writes_after
 returns-then-writes_after c =
-    let within : c.loop-k.k < length (places_of c.args.reads.now) = omega (arith, c.loop-k-test.true, length-map c.args.reads.now place_of_line) in
-    sym (late_here c.args.events.now (places_of c.args.reads.now) c.args.place c.loop-k.k (read_in_cycle 0 0) within (told (goal.at.returns-then-writes_after c).After-writes_after ∙ c.if-writes_after.true))
+    let within : c.loop-k.k < length (places_read c.args.reads.now) = omega (arith, c.loop-k-test.true, length-map c.args.reads.now place_of_line) in
+    sym (late_here c.args.events.now (places_read c.args.reads.now) c.args.place c.loop-k.k (read_in_cycle 0 0) within (told (goal.at.returns-then-writes_after c).After-writes_after ∙ c.if-writes_after.true))
 
 pub loop-k-preserved : goal.loop-k-preserved
 loop-k-preserved c =
-    let within : c.loop-k.k < length (places_of c.args.reads.now) = omega (arith, c.loop-k-test.true, length-map c.args.reads.now place_of_line) in
-    late_more c.args.events.now (places_of c.args.reads.now) c.args.place c.loop-k.k (read_in_cycle 0 0) within c.loop-k.invariant (told (goal.at.loop-k-preserved c).After-writes_after ∙ c.if-writes_after.false)
+    let within : c.loop-k.k < length (places_read c.args.reads.now) = omega (arith, c.loop-k-test.true, length-map c.args.reads.now place_of_line) in
+    late_more c.args.events.now (places_read c.args.reads.now) c.args.place c.loop-k.k (read_in_cycle 0 0) within c.loop-k.invariant (told (goal.at.loop-k-preserved c).After-writes_after ∙ c.if-writes_after.false)
 
 pub returns : goal.returns
 returns c =
-    let all : length (places_of c.args.reads.now) ≤ c.loop-k.k = omega (arith, c.loop-k-test.false, length-map c.args.reads.now place_of_line) in
-    sym (late_none c.args.events.now (places_of c.args.reads.now) c.args.place c.loop-k.k all c.loop-k.invariant)
+    let all : length (places_read c.args.reads.now) ≤ c.loop-k.k = omega (arith, c.loop-k-test.false, length-map c.args.reads.now place_of_line) in
+    sym (late_none c.args.events.now (places_read c.args.reads.now) c.args.place c.loop-k.k all c.loop-k.invariant)

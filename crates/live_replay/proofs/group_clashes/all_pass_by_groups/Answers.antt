@@ -4,7 +4,7 @@ use Rattle.std.proofs.lemmas.List.Elements.{All-take}
 use Rattle.air_base.specs.declared.verdicts.ReadOf.{ReadOf}
 use Rattle.air_history.specs.ClashLaws.{passes}
 use Rattle.air_model.specs.Aired.{scheme_in}
-use Rattle.live_replay.specs.Findings.{place_of_line, places_of, read_in_cycle}
+use Rattle.live_replay.specs.Findings.{place_of_line, places_read, read_in_cycle}
 use Rattle.live_replay.specs.Private.Groups.{AreMarksOf, HaveMarks, IsItemRead}
 use Rattle.live_replay.proofs.GroupClashLemmas.{have_front, marks_front}
 use Rattle.live_replay.proofs.PassLemmas.{at_place, group_fails, group_passes, pass_fails, passes_all}
@@ -43,10 +43,10 @@ returns-then-is_some c =
     let k = c.loop-k.k in
     let d : ReadOf = record { item = 0; cycle = 0; value = 0 } in
     let n = length deck.items in
-    let within : k < length (places_of reads) = omega (arith, c.loop-k-test.true, length-map reads place_of_line) in
-    sym (pass_fails (scheme_in deck) n H (places_of reads) k within
+    let within : k < length (places_read reads) = omega (arith, c.loop-k-test.true, length-map reads place_of_line) in
+    sym (pass_fails (scheme_in deck) n H (places_read reads) k within
     (sym (at_place (scheme_in deck) n H reads k d c.loop-k-test.true)
-    ∙ group_fails (scheme_in deck) n H (places_of (take k reads)) (place_of_line (get_or reads k d)) c.least_clash.result c.requires.some c.least_clash.ensures (sym c.is_some.ensures ∙ c.if-is_some.true)))
+    ∙ group_fails (scheme_in deck) n H (places_read (take k reads)) (place_of_line (get_or reads k d)) c.least_clash.result c.requires.some c.least_clash.ensures (sym c.is_some.ensures ∙ c.if-is_some.true)))
 
 pub loop-k-preserved : goal.loop-k-preserved
 loop-k-preserved c =
@@ -56,11 +56,11 @@ loop-k-preserved c =
     let k = c.loop-k.k in
     let d : ReadOf = record { item = 0; cycle = 0; value = 0 } in
     let n = length deck.items in
-    let Passes : ℕ → Type 0 = λ j. passes (scheme_in deck) n H (take j (places_of reads)) (get_or (places_of reads) j (read_in_cycle 0 0)) ≡ true in
+    let Passes : ℕ → Type 0 = λ j. passes (scheme_in deck) n H (take j (places_read reads)) (get_or (places_read reads) j (read_in_cycle 0 0)) ≡ true in
     below_more Passes k c.loop-k.invariant
     (sym (at_place (scheme_in deck) n H reads k d c.loop-k-test.true)
-    ∙ group_passes (scheme_in deck) n H (places_of (take k reads)) (place_of_line (get_or reads k d)) c.least_clash.result c.requires.some c.least_clash.ensures (sym c.is_some.ensures ∙ c.if-is_some.false))
+    ∙ group_passes (scheme_in deck) n H (places_read (take k reads)) (place_of_line (get_or reads k d)) c.least_clash.result c.requires.some c.least_clash.ensures (sym c.is_some.ensures ∙ c.if-is_some.false))
 
 pub returns : goal.returns
-returns c = sym (passes_all (scheme_in c.args.replay.now.deck) (length c.args.replay.now.deck.items) c.args.replay.now.history (places_of c.args.reads.now)
+returns c = sym (passes_all (scheme_in c.args.replay.now.deck) (length c.args.replay.now.deck.items) c.args.replay.now.history (places_read c.args.reads.now)
     (λ j l. c.loop-k.invariant j (omega (arith, c.loop-k-test.false, length-map c.args.reads.now place_of_line))))

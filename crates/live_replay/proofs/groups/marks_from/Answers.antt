@@ -1,7 +1,7 @@
 use Rattle.std.proofs.Common.{◌≡◌, ◌<◌, ◌≤◌, ◌+◌, All, List, IfSome, false, length, get_or, map, sym, ap, subst, ◌∙◌, arith}
 use Rattle.air_history.specs.Histories.{ItemsFit}
 use Rattle.air_history.specs.Reads.{ReadAt, origin}
-use Rattle.live_replay.specs.Findings.{place_of_line, places_of}
+use Rattle.live_replay.specs.Findings.{place_of_line, places_read}
 use Rattle.live_replay.specs.Private.Groups.{group_reads}
 use Rattle.live_replay.proofs.AloneLemmas.{origins_within}
 use Rattle.live_replay.proofs.MarkedLemmas.{before_later}
@@ -14,7 +14,7 @@ its : (c : After-as_slice-places) → c.as_slice-places.result.now ≡
 its c =
     let H = c.args.replay.now.history in
     let R : List ReadAt = group_reads c.args.replay.now.deck.settings.group (length c.args.replay.now.deck.items) (place_of_line c.args.read.now) in
-    c.as_slice-places.ensures.value ∙ c.in_ok-origins.ensures ∙ ap (λ rs. map (origin H) (places_of rs)) c.deref.ensures.value
+    c.as_slice-places.ensures.value ∙ c.in_ok-origins.ensures ∙ ap (λ rs. map (origin H) (places_read rs)) c.deref.ensures.value
     ∙ ap (map (origin H)) c.in_ok-group.ensures ∙ ap (λ G. map (origin G) R) (sym c.events-events.ensures.listed)
 
 pub end_of-requires : goal.end_of-requires

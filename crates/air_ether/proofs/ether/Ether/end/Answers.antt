@@ -1,7 +1,7 @@
 use Rattle.std.proofs.Common.{◌≡◌, sym, subst}
 use Rattle.air_ether.specs.EtherFields.{ether_in}
 use Rattle.air_ether.specs.HeardSoFar.{Ether, limit_of}
-use Rattle.air_ether.proofs.EtherLemmas.{few_after_end}
+use Rattle.air_ether.proofs.PushLemmas.{few_after_end}
 use Rattle.air_ether.proofs.ether.Ether.end.Goals as goal
 
 pub returns-clause-few : goal.returns-clause-few

@@ -1,95 +1,52 @@
-use Rattle.std.proofs.Common.{arith, refl, sym, ap, subst, ◌∙◌, ◌≡◌, ◌+◌, ◌<◌, ℕ, List, length, map, Some, None, slice_get}
-use Rattle.std.specs.Prelude.{Contains}
-use Rattle.air_ether.specs.declared.waiting.QueuedPush.{QueuedPush}
-use Rattle.air_ether.specs.declared.cursor.Cursor.{Cursor}
-use Rattle.air_ether.specs.HeardPositions.{InWindow, left_at, position, times_heard_at}
-use Rattle.air_ether.specs.HeardSoFar.{Ether, IsEtherAfter, due_of, left_of, limit_of}
-use Rattle.air_ether.specs.KeptPushes.{Waits, push_of}
-use Rattle.air_ether.specs.PushWords.{due_in, times_in}
+use Rattle.std.proofs.Common.{arith, refl, sym, ap, subst, ◌∙◌, ◌≡◌, ◌+◌, ℕ, List, [], length, Some}
+use Rattle.std.specs.Prelude.{Contains, slice_index_or}
+use Rattle.std.proofs.lemmas.List.{length-map}
+use Rattle.std.proofs.lemmas.List.Elements.{Contains-get_or}
 use Rattle.air_ether.specs.EtherFields.{ether_in}
+use Rattle.air_ether.specs.HeardPlaces.{places_of}
+use Rattle.air_ether.specs.HeardSoFar.{Ether, IsEtherAfter}
 use Rattle.air_ether.specs.LentBuckets.{Gave}
-use Rattle.air_ether.proofs.CursorLemmas.{queued_read, times_few}
-use Rattle.air_ether.proofs.EtherLemmas.{all_given, gave, gives, gives_pushed, moved}
+use Rattle.air_ether.proofs.CursorLemmas.{queued_read}
+use Rattle.air_ether.proofs.EtherLemmas.{due_is, given_bytes}
 use Rattle.air_ether.proofs.ether.Ether.next.Goals as goal
 
--- What `seek` says of the ether's own rooms and limit.
-in_window : (pushes limit to : ℕ) (queue items : List QueuedPush) (c : Cursor) → limit ≡ to → queue ≡ items → InWindow pushes limit (map push_of queue) c → InWindow pushes to (map push_of items) c
-in_window pushes limit to queue items c e f w = subst (λ l. InWindow pushes l (map push_of items) c) e (subst (λ (r : List QueuedPush). InWindow pushes limit (map push_of r) c) f w)
-
-pub returns-then-not-seek : goal.returns-then-not-seek
-returns-then-not-seek c =
-    let e : Ether = ether_in c.self.inside in
-    let cursor = c.seek.new.cursor in
-    let items = c.deref.ensures.value in
-    let within = in_window e.pushes _ (limit_of e.ended e.pushes) _ _ cursor c.limit_of-limit.ensures items c.seek.ensures.within in
-    let at : cursor.number ≡ limit_of e.ended e.pushes = c.seek.ensures.none c.if-not-seek.true ∙ c.limit_of-limit.ensures in
-    let same : (seed number given : ℕ) (pushed : List (List ℕ)) → IsEtherAfter seed number pushed given e →
-    position (due_in seed number e.odds) (times_in seed number e.odds) e.pushes cursor ≡ position (due_in seed number e.odds) (times_in seed number e.odds) e.pushes e.cursor =
-    λ seed number given pushed f. c.seek.ensures.same _ _ (subst (λ (r : List QueuedPush). Waits (due_in seed number e.odds) (times_in seed number e.odds) e.pushes (map push_of r)) (sym items) f.waits) in (
-      (
-        refl,
-        λ _. tt,
-        subst (λ (s : Ether). Gave s None (record e { cursor = cursor })) c.self.view_is (record {
-          most = refl;
-          odds = refl;
-          pushes = refl;
-          ended = refl;
-          fewer = tt;
-          quiet = at;
-          follows = λ seed number given pushed f. moved seed number given pushed e cursor f (same seed number given pushed f);
-        }),
-      ),
+pub returns-in_default : goal.returns-in_default
+returns-in_default c =
+    let old = c.args.self.now in
+    let a = c.in_default.ensures.after in (
+      (refl, λ _. tt, record { most = a.most; odds = a.odds; pushes = a.pushes; ended = a.ended; fewer = tt; quiet = a.quiet; follows = a.follows }),
       record {
         pushed = λ seed number given pushed f. tt;
-        given = subst (λ (s : Ether). (seed number given : ℕ) (pushed : List (List ℕ)) → IsEtherAfter seed number pushed given s → given ≡ length (due_of seed number s.odds pushed s.ended)) c.self.view_is
-            (λ seed number given pushed f. all_given seed number given pushed e cursor f within (same seed number given pushed f) at);
+        given = λ seed number given pushed f.
+            c.in_default.ensures.given seed number given pushed f
+            ∙ sym (ap length (due_is seed number old.odds pushed old.ended) ∙ length-map (places_of seed number old.odds (length pushed) old.ended) (λ place. slice_index_or pushed place []));
         after = tt;
       },
     )
 
-pub overflow_add-self : goal.overflow_add-self
-overflow_add-self c =
-    let items = c.deref.ensures.value in
-    let few = times_few c.self.inside.queue.items c.seek.new.cursor c.self.invariant.count c.self.invariant.twice in
-    let found = (c.seek.ensures.found c.if-not-seek.false).2 in
-    let same = ap (λ (r : List QueuedPush). times_heard_at (map push_of r) c.seek.new.cursor) items in
-    omega arith
-
 pub returns : goal.returns
 returns c =
-    let e : Ether = ether_in c.self.inside in
-    let cursor = c.seek.new.cursor in
-    let items = c.deref.ensures.value in
-    let found = c.seek.ensures.found c.if-not-seek.false in
-    let within = in_window e.pushes _ (limit_of e.ended e.pushes) _ _ cursor c.limit_of-limit.ensures items c.seek.ensures.within in
-    let below : cursor.number < limit_of e.ended e.pushes = subst (λ l. cursor.number < l) c.limit_of-limit.ensures found.0 in
-    let left : cursor.given < times_heard_at e.queue cursor = subst (λ (r : List QueuedPush). cursor.given < times_heard_at (map push_of r) cursor) items found.2 in
-    let read = queued_read c.self.inside.queue.items cursor.place c.index.result.now c.self.invariant.count c.index.ensures in
-    let same : (seed number given : ℕ) (pushed : List (List ℕ)) → IsEtherAfter seed number pushed given e →
-    position (due_in seed number e.odds) (times_in seed number e.odds) e.pushes cursor ≡ position (due_in seed number e.odds) (times_in seed number e.odds) e.pushes e.cursor =
-    λ seed number given pushed f. c.seek.ensures.same _ _ (subst (λ (r : List QueuedPush). Waits (due_in seed number e.odds) (times_in seed number e.odds) e.pushes (map push_of r)) (sym items) f.waits) in
-    let few = times_few c.self.inside.queue.items cursor c.self.invariant.count c.self.invariant.twice in
-    let given_one : left_of (record e { cursor = record { number = cursor.number; place = cursor.place; given = cursor.given + 1 } }) < left_of e =
-    subst (λ l. left_at l (record { number = cursor.number; place = cursor.place; given = cursor.given + 1 }) < left_at l e.cursor) c.limit_of-limit.ensures (omega (arith, c.seek.ensures.fewer, left, few)) in
-    let on : Cursor = record { number = cursor.number; place = cursor.place; given = cursor.given + 1 } in (
+    let old = c.args.self.now in
+    let a = c.in-Some.ensures.after in
+    let p = c.in-Some.place in
+    let bytes = c.bytes.result in
+    let within = c.in-Some.ensures.within in
+    let read = queued_read c.self.inside.queue.items p c.index.result.now c.self.invariant.count c.index.ensures in
+    let pushes : c.self.inside.pushes ≡ old.pushes = ap (λ (s : Ether). s.pushes) c.self.view_is ∙ a.pushes in
+    let is : (seed number given : ℕ) (pushed : List (List ℕ)) → IsEtherAfter seed number pushed given old → slice_index_or pushed p [] ≡ bytes.now =
+    λ seed number given pushed f.
+    let now : IsEtherAfter seed number pushed (given + 1) (ether_in c.self.inside) = subst (IsEtherAfter seed number pushed (given + 1)) (sym c.self.view_is) (a.follows seed number given pushed f) in
+    sym (now.bytes p (omega (arith, within.0)) (omega (arith, within.1))) ∙ ap (λ w. w.bytes) read ∙ sym c.bytes.ensures in (
       (
         refl,
         λ _. tt,
-        subst (λ (s : Ether). Gave s (Some c.bytes.result) (record e { cursor = on })) c.self.view_is (record {
-          most = refl;
-          odds = refl;
-          pushes = refl;
-          ended = refl;
-          fewer = given_one;
-          quiet = tt;
-          follows = λ seed number given pushed f. gave seed number given pushed e cursor f (same seed number given pushed f);
-        }),
+        subst (λ (s : Ether). Gave old (Some bytes) s) (sym c.self.view_is)
+            (record { most = a.most; odds = a.odds; pushes = a.pushes; ended = a.ended; fewer = a.fewer; quiet = tt; follows = a.follows }),
       ),
       record {
-        pushed = subst (λ (s : Ether). (seed number given : ℕ) (pushed : List (List ℕ)) → IsEtherAfter seed number pushed given s → Contains pushed c.bytes.result.now) c.self.view_is
-            (λ seed number given pushed f. subst (Contains pushed) (ap (λ w. w.bytes) read ∙ sym c.bytes.ensures) (gives_pushed seed number given pushed e cursor f within found.1));
-        given = subst (λ (s : Ether). (seed number given : ℕ) (pushed : List (List ℕ)) → IsEtherAfter seed number pushed given s → slice_get (due_of seed number s.odds pushed s.ended) given ≡ Some c.bytes.result.now) c.self.view_is
-            (λ seed number given pushed f. gives seed number given pushed e cursor f within (same seed number given pushed f) below found.1 left ∙ ap (λ w. Some w.bytes) read ∙ ap Some (sym c.bytes.ensures));
+        pushed = λ seed number given pushed f. subst (Contains pushed) (is seed number given pushed f) (Contains-get_or pushed p [] (omega (arith, f.pushes, within.0)));
+        given = λ seed number given pushed f.
+            given_bytes seed number given old.odds pushed old.ended p bytes.now (c.in-Some.ensures.given seed number given pushed f) (is seed number given pushed f);
         after = tt;
       },
     )

@@ -29,6 +29,10 @@ apply_all-requires-clause-room g c =
     let room = c.requires.room.1 in
     omega arith
 
+pub fill_from-requires : goal.fill_from-requires
+fill_from-requires g c =
+    record { suits = (c.args.means.now.form, subst (λ n. g.A.Airing.suits c.args.airing.now n c.args.means.now.form) (grind (arith, board_sized)) c.requires.suits) }
+
 pub publish-requires-clause-batch : goal.publish-requires-clause-batch
 publish-requires-clause-batch g c =
     let f = c.args.publisher.now in

@@ -19,9 +19,9 @@ returns-in-Ok-clause-aired g c = λ air is.
     let form = c.args.means.now.form in
     let plans = c.args.means.now.plans.now in
     let own = c.in_force-program.result.now in
-    let source = g.A.Airing.source c.args.airing.now board in
+    let source = g.A.Airing.source c.begin_cycle.new.airing board in
     let group = g.A.Airing.group c.args.airing.now in
-    let from = c.air.ensures.from air.scheme is.policy_is is.group_is in
+    let from = c.air.ensures.from air.scheme is.policy_is (is.group_is ∙ sym c.begin_cycle.ensures.kept.0) in
     let at = subst (λ n. slice_get plans.programs (planned_edition plans n) ≡ Some own) c.cycle.ensures.found c.in_force-program.ensures.told in
     cycle_sent p q f h board on b.0 b.1 air group form plans own is at source from c.slots-slots.result _ _ c.slots-slots.ensures.counted
     (c.in-Ok.ensures.history p.values air (beginning p q f h board on b.0 b.1) (last_board p q f h board on b.0 b.1 air group form plans own is at source from))
@@ -31,19 +31,13 @@ air-requires-clause-items g c =
     c.in_force-program.ensures.items (length c.args.pass.now.values) c.requires.airable.items ∙ sym c.in_ok-begin_cycle.ensures.sized
 
 pub air-requires-clause-suits : goal.air-requires-clause-suits
-air-requires-clause-suits g c = subst (λ n. g.A.Airing.suits c.args.airing.now n c.args.means.now.form) (sym c.in_ok-begin_cycle.ensures.sized) c.requires.suits
-
-pub returns-in-Ok-clause-kept : goal.returns-in-Ok-clause-kept
-returns-in-Ok-clause-kept g c = (c.air.ensures.kept.0, subst (λ n. g.A.Airing.suits c.air.new.self n c.args.means.now.form) c.in_ok-begin_cycle.ensures.sized c.air.ensures.kept.1)
-
-pub returns-in-Err-clause-kept : goal.returns-in-Err-clause-kept
-returns-in-Err-clause-kept g c = (c.air.ensures.kept.0, subst (λ n. g.A.Airing.suits c.air.new.self n c.args.means.now.form) c.in_ok-begin_cycle.ensures.sized c.air.ensures.kept.1)
+air-requires-clause-suits g c = subst (λ n. g.A.Airing.suits c.begin_cycle.new.airing n c.args.means.now.form) (sym c.in_ok-begin_cycle.ensures.sized) c.begin_cycle.ensures.kept.1
 
 pub overflow_add-sent : goal.overflow_add-sent
 overflow_add-sent g c =
     let own = c.in_force-program.result.now in
     let inside =
-    within_cycle g.M.Mast.state c.args.means.now.form own.edition (slots_of own.disks) (g.A.Airing.source c.args.airing.now c.begin_cycle.new.board) _ c.from-slot.result c.args.mast.now c.air.new.mast (c.from-slot.ensures ∙ c.slot_of.ensures) c.in-Err.ensures.fault in
+    within_cycle g.M.Mast.state c.args.means.now.form own.edition (slots_of own.disks) (g.A.Airing.source c.begin_cycle.new.airing c.begin_cycle.new.board) _ c.from-slot.result c.args.mast.now c.air.new.mast (c.from-slot.ensures ∙ c.slot_of.ensures) c.in-Err.ensures.fault in
     let most = c.slots-slots.ensures.few in
     let counted = c.slots-slots.ensures.counted in
     let room = c.requires.count in
@@ -61,9 +55,9 @@ returns-in-Err-clause-aired g c = λ air is.
     let form = c.args.means.now.form in
     let plans = c.args.means.now.plans.now in
     let own = c.in_force-program.result.now in
-    let source = g.A.Airing.source c.args.airing.now board in
+    let source = g.A.Airing.source c.begin_cycle.new.airing board in
     let group = g.A.Airing.group c.args.airing.now in
-    let from = c.air.ensures.from air.scheme is.policy_is is.group_is in
+    let from = c.air.ensures.from air.scheme is.policy_is (is.group_is ∙ sym c.begin_cycle.ensures.kept.0) in
     let at = subst (λ n. slice_get plans.programs (planned_edition plans n) ≡ Some own) c.cycle.ensures.found c.in_force-program.ensures.told in (
       c.from-slot.result,
       refl,

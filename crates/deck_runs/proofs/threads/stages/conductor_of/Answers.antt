@@ -1,7 +1,6 @@
-use Rattle.std.proofs.Common.{[], ◌∙◌, ap, subst, arith}
+use Rattle.std.proofs.Common.{[], ◌∙◌, ap, arith}
 use Rattle.air_history.specs.Boards.{board_of}
 use Rattle.air_model.specs.Decks.{values_in}
-use Rattle.deck_runs.specs.Private.Crews.{HasGroups}
 use Rattle.deck_runs.proofs.threads.stages.conductor_of.Goals as goal
 
 pub returns-clause-board : goal.returns-clause-board
@@ -9,6 +8,3 @@ returns-clause-board c = c.in_ok-new.ensures.empty ∙ ap (λ values. board_of v
 
 pub returns-clause-buffer : goal.returns-clause-buffer
 returns-clause-buffer c = omega (arith, c.in_ok-vec.ensures.len, c.bucket_room.ensures, c.in_ok-vec.field-0.ok.0)
-
-pub returns-clause-groups : goal.returns-clause-groups
-returns-clause-groups c = subst (λ d. HasGroups d c.in_ok-groups_of.field-0) c.deck-deck.ensures.told c.in_ok-groups_of.ensures

@@ -17,4 +17,4 @@ loop-r-preserved c =
 
 pub invariant_of-result : goal.invariant_of-result
 invariant_of-result c =
-    all_know c.args.planned.now c.in_ok-air.air c.loop-r.readers.items c.loop-r.r (c.in_ok-air.ensures.told ∙ ap air_of (c.of.ensures ∙ c.deck.ensures.told)) c.loop-r.invariant
+    all_know c.args.planned.now c.in_ok-air.air c.loop-r.readers.items c.loop-r.r (c.in_ok-air.ensures.told ∙ ap air_of c.lend.ensures) c.loop-r.invariant

@@ -3,8 +3,8 @@ use Rattle.std.proofs.lemmas.List.{length_push}
 use Rattle.air_history.specs.Boards.{board_of}
 use Rattle.air_model.specs.Decks.{values_in}
 use Rattle.air_sender.specs.AiredBytes.{aired_bytes}
+use Rattle.air_sender.specs.DeckGroups.{HasGroups}
 use Rattle.listeners.specs.Hearings.{AreTogether}
-use Rattle.scripts.specs.PieceRuns.{FitsGroups}
 use Rattle.scripts.specs.Private.RunSteps.{CountsScripted}
 use Rattle.air_sender.proofs.TapeLemmas.{script_airs}
 use Rattle.scripts.proofs.HeardLemmas.{begins_airing, begins_few, next_begun}
@@ -39,7 +39,7 @@ pub hear-requires-clause-room : goal.hear-requires-clause-room
 hear-requires-clause-room c = ap (λ v. length v.items) c.in_ok-event.ensures.room ∙ c.requires.kept.room
 
 pub hear-requires-clause-groups : goal.hear-requires-clause-groups
-hear-requires-clause-groups c = subst (FitsGroups c.args.planned.now) (sym c.in_ok-event.ensures.groups) c.requires.kept.groups
+hear-requires-clause-groups c = subst (HasGroups c.args.planned.now) (sym c.in_ok-event.ensures.groups) c.requires.kept.groups
 
 pub hear-requires-clause-heard : goal.hear-requires-clause-heard
 hear-requires-clause-heard c =

@@ -4,7 +4,7 @@ use Rattle.air_history.specs.Boards.{board_of}
 use Rattle.air_history.specs.Histories.{starts}
 use Rattle.air_model.specs.Decks.{values_in}
 use Rattle.air_sender.specs.AiredBytes.{aired_bytes}
-use Rattle.scripts.specs.PieceRuns.{FitsGroups}
+use Rattle.air_sender.specs.DeckGroups.{HasGroups}
 use Rattle.scripts.specs.Private.RunSteps.{CountsScripted}
 use Rattle.air_sender.proofs.AiredLemmas.{starts_more}
 use Rattle.scripts.proofs.PieceLemmas.{piece_next}
@@ -18,7 +18,7 @@ pub air-requires-clause-room : goal.air-requires-clause-room
 air-requires-clause-room c = ap (λ v. length v.items) c.in_ok-event.ensures.room ∙ c.requires.kept.room
 
 pub air-requires-clause-groups : goal.air-requires-clause-groups
-air-requires-clause-groups c = subst (FitsGroups c.args.planned.now) (sym c.in_ok-event.ensures.groups) c.requires.kept.groups
+air-requires-clause-groups c = subst (HasGroups c.args.planned.now) (sym c.in_ok-event.ensures.groups) c.requires.kept.groups
 
 pub returns-clause-kept : goal.returns-clause-kept
 returns-clause-kept c =

@@ -6,7 +6,7 @@ use Rattle.air_model.specs.Tapes.{TapeRead, tape_read}
 use Rattle.air_sender.specs.TapeMasts.{told_by_tape}
 use Rattle.air_sender.proofs.TapeLemmas.{script_airs}
 use Rattle.chunk_program.specs.Editions.{HaveItems, Plans, programs_in}
-use Rattle.scripts.proofs.BeamPieces.{IsBeamedWith, piece_asked, piece_buckets, piece_written, runs_few, runs_on}
+use Rattle.scripts.proofs.BeamPieces.{IsBeamedWith, piece_asked, piece_buckets, piece_written, runs_on}
 use Rattle.scripts.proofs.TapePieceLemmas.{piece_read}
 use Rattle.scripts.proofs.script_beaming.ScriptBeaming.next_piece.Goals as goal
 use Rattle.scripts.proofs.script_beaming.ScriptBeaming.next_piece.Goals.{After-tape, In_ok-next_piece}
@@ -48,12 +48,6 @@ beam_piece-requires-clause-items c =
     let d = c.args.planned.now in
     let items = c.items-items.ensures.told ∙ ap (λ (d : Deck). length d.items) c.deck.ensures.told in
     subst (λ (p : Plans). HaveItems c.items-items.result p.programs) (sym c.plans.ensures.told) (subst (λ n. HaveItems n (programs_in d)) (sym items) c.plans.ensures.items)
-
-pub beam_piece-requires-clause-last : goal.beam_piece-requires-clause-last
-beam_piece-requires-clause-last c =
-    let deck = c.args.planned.now in
-    let few = runs_few deck c.next_piece.new.self c.in_ok-next_piece.ensures.kept c.shows_planned.ensures.limits.script in
-    omega (arith, few, later (goal.at.beam_piece-requires-clause-last c).In_ok-next_piece, c.cycles-before.ensures deck c.requires.kept.run, c.cycles-now.ensures deck c.in_ok-next_piece.ensures.kept)
 
 pub beam_piece-requires-clause-whole : goal.beam_piece-requires-clause-whole
 beam_piece-requires-clause-whole c =

@@ -1,6 +1,6 @@
 use Rattle.std.proofs.Common.{◌≡◌, ◌≤◌, nat_le, take}
 use Rattle.std.specs.Prelude.{count_by}
-use Rattle.chunk_program.proofs.plans.Plans.edition_at.Given as goal
+use Rattle.chunk_program.proofs.plans.Plans.edition_by.Given as goal
 
 abbrev pub invariant-loop-at : goal.invariant-loop-at
 invariant-loop-at l = record {
