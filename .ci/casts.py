@@ -46,7 +46,7 @@ def listener(deck, port, errors=subprocess.DEVNULL, **variables):
 
 
 def ended(program, seconds):
-    """What a started program printed, in lines, and its status; the status is None where it didn't end in time."""
+    """What a started program printed, in lines, and its status; the status is None if it didn't end in time."""
     try:
         printed = program.communicate(timeout=seconds)[0].decode().splitlines()
     except subprocess.TimeoutExpired:
@@ -57,7 +57,7 @@ def ended(program, seconds):
 
 
 def cast(deck, port, **variables):
-    """The history that a cast prints; none where it failed, or didn't end in two minutes."""
+    """The history that a cast prints; none if it failed, or didn't end in two minutes."""
     mast = subprocess.Popen([PROGRAM, "cast", deck, str(port)], stdin=subprocess.DEVNULL, stdout=subprocess.PIPE, stderr=subprocess.DEVNULL,
                             env=dict(os.environ, **variables))
     printed, status = ended(mast, 120)
@@ -190,7 +190,7 @@ def try_terminal(say, deck, is_long):
 
 
 def try_casts(say, folder, casts):
-    """All of these, with so many casts to a listener; where there are more than two also what takes long."""
+    """All of these, with this many casts to a listener; where there are more than two also what takes long."""
     if not os.access(PROGRAM, os.X_OK):
         print("skipped: the program isn't built, so no cast is listened to")
         return

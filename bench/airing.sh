@@ -1,5 +1,5 @@
 #!/usr/bin/env bash
-# How many bytes a second a cycle of 256 items is aired into a mast that gathers a tape, beside a plain copy of as many bytes.
+# How many bytes a second a cycle of 256 items is aired into a mast that gathers a tape, compared with a plain copy of as many bytes.
 # Usage: bench/airing.sh [RUNS]. Prints a table; each figure is the median of the runs: `anew` where one tape of 1,000
 # cycles takes memory that was never touched, `again` where each cycle has its own tape. The program is bench/airing.txt.
 set -u

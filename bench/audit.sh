@@ -7,7 +7,7 @@ cd "$(dirname "$0")/.." || exit 1
 runs=${1:-5}
 source bench/program.sh
 
-# deck POLICY COMMITS: 64 items, an updater with so many updates of four reads and two writes, eight readers with four queries each
+# deck POLICY COMMITS: 64 items, an updater with this many updates of four reads and two writes, eight readers with four queries each
 deck() {
     awk -v policy="$1" -v u="$2" 'BEGIN {
         n = 64
@@ -25,7 +25,7 @@ deck() {
     }'
 }
 
-# report COMMITS LINES: a start after each hundredth of the commits, and so many accepts whose reads are of rising cycles
+# report COMMITS LINES: a start after each hundredth of the commits, and this many accepts whose reads are of rising cycles
 report() {
     awk -v u="$1" -v lines="$2" 'BEGIN {
         n = 64; cycles = 100

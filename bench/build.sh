@@ -1,7 +1,7 @@
 # Sourced by the benches, which run at the top of the repository.
 #
-# `build NAME USED..` proves and builds the program of `bench/NAME.txt`, which uses these crates, in a scratch folder beside a
-# copy of them and of the crates that they stand on: so the repository keeps no crate that only measures. `scratch` is that
+# `build NAME USED..` proves and builds the program of `bench/NAME.txt`, which uses these crates, in a scratch folder next to a
+# copy of them and of the crates that they depend on: so the repository keeps no crate that only measures. `scratch` is that
 # folder, which goes when the bench ends, and `program` the program. A proof of its function F is `bench/NAME_proof_F.txt`,
 # what holds between the rounds of its loops `bench/NAME_loops_F.txt`; a method is `TYPE.METHOD`.
 #

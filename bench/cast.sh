@@ -1,5 +1,5 @@
 #!/usr/bin/env bash
-# How many datagrams a second `cast` sends to a port at which nobody listens, beside a bare loop of `sendto` that sends as many of the
+# How many datagrams a second `cast` sends to a port at which nobody listens, compared with a bare loop of `sendto` that sends as many of the
 # same size from a socket of the same kind. The loop is in C where cc is there, and in Python else; the times are those of the whole
 # commands, so `cast` also reads its deck, commits 1,000 updates and prints the history.
 # Usage: bench/cast.sh [RUNS]. Prints a row for each size: the median of the runs of each, and the first by the second (aim: 0.7).
@@ -15,7 +15,7 @@ silent() {
     echo "$port"
 }
 
-# loop DATAGRAMS BYTES PORT: so many datagrams, and the end mark
+# loop DATAGRAMS BYTES PORT: this many datagrams, and the end mark
 if command -v cc >/dev/null 2>&1; then
     cat >"$scratch/loop.c" <<'END'
 #include <arpa/inet.h>

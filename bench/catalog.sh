@@ -1,5 +1,5 @@
 #!/usr/bin/env bash
-# How long `read_deck` takes, and how much memory, beside a bare pass over the records of the same text.
+# How long `read_deck` takes, and how much memory, compared with a bare pass over the records of the same text.
 # Usage: bench/catalog.sh [RUNS]. Prints a table; pass and deck are run in turns, and each time is the least of the runs, as
 # other work on the machine only adds to it. Each memory is the peak of the process that GNU time tells (a dash where it is
 # not installed), with that of reading the file alone before it. The program is bench/catalog.txt.
@@ -9,7 +9,7 @@ runs=${1:-9}
 source bench/build.sh
 build catalog air_base air_history air_model item_catalog csv
 
-# deck UPDATES AMOUNT: 256 items, so many updates of sixteen reads and sixteen writes each, and 10,000 queries of sixteen items
+# deck UPDATES AMOUNT: 256 items, this many updates of sixteen reads and sixteen writes each, and 10,000 queries of sixteen items
 deck() {
     awk -v u="$1" -v amount="$2" 'BEGIN {
         for (i = 0; i < 256; i++) printf "item,%d,%d,1\n", i, i
@@ -29,7 +29,7 @@ deck() {
     }'
 }
 
-# wide UPDATES: a deck of version 2 of 1,024 items, so many updates whose reads and writes are of items from 1,000 on, whose numbers have four digits
+# wide UPDATES: a deck of version 2 of 1,024 items, this many updates whose reads and writes are of items from 1,000 on, whose numbers have four digits
 wide() {
     awk -v u="$1" 'BEGIN {
         printf "set,version,2\n"

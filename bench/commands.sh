@@ -1,7 +1,7 @@
 #!/usr/bin/env bash
 # How long the commands take over real files, and how much memory.
 # Usage: bench/commands.sh [RUNS]. Prints a table; each time is the median of the runs, the memory the peak that GNU time
-# tells (a dash where it is not installed), and the speed that of the bytes read or written, beside a plain copy of as many.
+# tells (a dash where it is not installed), and the speed that of the bytes read or written, compared with a plain copy of as many.
 set -u
 cd "$(dirname "$0")/.." || exit 1
 runs=${1:-5}

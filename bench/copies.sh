@@ -1,12 +1,12 @@
 #!/usr/bin/env bash
 # What room for copies saves, on one deck: 40 items on three disks, 4 updaters with 25 updates each, 20 cycles with 5 commits
-# behind each start, 8 readers with 40 queries of three items each, one of each disk, whose copies are too old after ten cycles.
+# after each start, 8 readers with 40 queries of three items each, one of each disk, whose copies are too old after ten cycles.
 # Usage: bench/copies.sh. Prints a row a room: opened, dozed, late and copied of all readers, and verdicts by kind.
 set -u
 cd "$(dirname "$0")/.." || exit 1
 source bench/program.sh
 
-# deck ROOM: the deck above, with room for so many copies
+# deck ROOM: the deck above, with room for this many copies
 deck() {
     awk -v room="$1" 'BEGIN {
         for (i = 0; i < 40; i++) printf "item,%d,%d,%d\n", i, 100 + i, 40 - i

@@ -7,7 +7,7 @@ cd "$(dirname "$0")/.." || exit 1
 runs=${1:-5}
 source bench/program.sh
 
-# row NAME SETTING..: the rows of the deck with these records behind it
+# row NAME SETTING..: the rows of the deck with these records after it
 row() {
     local name=$1
     shift

@@ -1,6 +1,6 @@
 #!/usr/bin/env bash
 # How many casts of 2,400 buckets of 1,048 bytes a listener on this machine hears whole, with the system's buffer as it is, and whether each
-# listener ends: first with nothing beside them, then with two processes that take a processor each. The deck has 256 items on two disks, of
+# listener ends: first with nothing next to them, then with two processes that take a processor each. The deck has 256 items on two disks, of
 # which a cycle airs 44 twice, in 300 slots, and eight cycles; what a listener heard are its counts but the copies.
 # Usage: bench/heard.sh [CASTS]. Prints a row for each: casts, those heard whole (aim: 99 of 100), the fewest buckets heard, listeners that
 # ended, and how many milliseconds the casts took, as a median.
@@ -43,7 +43,7 @@ one() {
         /^counts,/ { heard = $3 + $4 + $5 + $6 + $7 } END { print heard + 0, status, took }' "$scratch/heard"
 }
 
-# row NAME: so many casts, and a row of what came of them
+# row NAME: this many casts, and a row of what came of them
 row() {
     for _ in $(seq "$runs"); do one; done | sort -n -k 3 | awk -v name="$1" '{
         whole += $1 == 2400; ended += $2 == 0; took[NR] = $3

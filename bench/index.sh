@@ -1,5 +1,5 @@
 #!/usr/bin/env bash
-# How long `beam` takes beside `script` with its tape, and `seek` beside a bare pass over the file, and how much memory: 256 items on three disks, 352 slots
+# How long `beam` takes compared with `script` with its tape, and `seek` compared with a bare pass over the file, and how much memory: 256 items on three disks, 352 slots
 # a cycle, 602 cycles, one reader. The last item is sought from record 0 on, and from the last record on.
 # Usage: bench/index.sh [RUNS].
 # Prints a row for each command: the median of the runs and the least in milliseconds, the bytes of the tape, and the most memory in kilobytes (a dash
@@ -33,7 +33,7 @@ aim() {
     printf '%s: %s of at most %s: %s\n' "$1" "$2" "$3" "$told"
 }
 
-# slower NAME OTHER TIMES: whether the least time of a row is at most so many times the other's
+# slower NAME OTHER TIMES: whether the least time of a row is at most this many times the other's
 slower() {
     aim "$1 beside $2, milliseconds" "${least_of[$1]}" "$(awk -v t="${least_of[$2]}" -v times="$3" 'BEGIN { printf "%.2f", t * times }')"
 }

@@ -1,7 +1,7 @@
 #!/usr/bin/env bash
 # How long `PixCache::keep` and `PixCache::get` take at rooms 8, 64 and 256 over 512 items. Each keep is of a newcomer that finds
-# room or takes that of the least copy, with the drop of a copy to come; `replace` is a keep of an item that has one. Beside them
-# stands a bare copy of a column. Usage: bench/kept.sh [RUNS]. Prints a table in nanoseconds, each the median of the runs. The
+# room or takes that of the least copy, with the drop of a copy to come; `replace` is a keep of an item that has one. Compared with them
+# is a bare copy of a column. Usage: bench/kept.sh [RUNS]. Prints a table in nanoseconds, each the median of the runs. The
 # program is bench/kept.txt.
 set -u
 cd "$(dirname "$0")/.." || exit 1

@@ -1,7 +1,7 @@
 #!/usr/bin/env bash
 # How long `script` and `tune` take, and how much memory, over tapes of many cycles: 256 items, the first 49 aired four times a
-# cycle, 800 updates; each beside a plain copy of as many bytes in the same run: in memory, by cp, or by cat to a pipe. What encoding
-# costs a byte where one item of the 256 changes from cycle to cycle, and where all do; beside copies of 4 MiB into one room.
+# cycle, 800 updates; each compared with a plain copy of as many bytes in the same run: in memory, by cp, or by cat to a pipe. What encoding
+# costs a byte where one item of the 256 changes from cycle to cycle, and where all do; compared with copies of 4 MiB into one room.
 # Usage: bench/pieces.sh [RUNS]. Prints a row for each command and number of readers (median milliseconds, the copy's, their
 # quotient), then a row for each number of items that change (milliseconds with its 1,000 cycles and with none, the bytes of the tape,
 # nanoseconds a byte of the difference and of the copies), and then the most memory at 100, 1,000 and 2,400 cycles (kilobytes, with GNU time).
@@ -16,7 +16,7 @@ deck() {
     { flat 256 800 "$1" "$2" | sed 's/^disk,256,1$/disk,49,4\ndisk,207,1/'; shift 2; printf '%s\n' set,seed,7 "$@"; } >"$scratch/deck.csv"
 }
 
-# changing COMMITS WRITES [START]: 1,000 cycles of these items, with so many commits before each that write so many items each; no cycle
+# changing COMMITS WRITES [START]: 1,000 cycles of these items, with this many commits before each that write this many items each; no cycle
 # is started where START isn't given. There is an ether and no reader, so that nothing is decoded
 changing() {
     awk -v commits="$1" -v writes="$2" -v start="${3:-}" 'BEGIN {

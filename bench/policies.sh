@@ -1,6 +1,6 @@
 #!/usr/bin/env bash
 # What the three policies accept, and what they cost, on one deck: 40 items on three disks, 4 updaters with 250 updates each,
-# 20 cycles with 50 commits behind each start, 8 readers with 10 queries each.
+# 20 cycles with 50 commits after each start, 8 readers with 10 queries each.
 # Usage: bench/policies.sh [RUNS]. Prints a row a policy: verdicts by kind, bytes of the tape, and the median of the runs' times.
 set -u
 cd "$(dirname "$0")/.." || exit 1

@@ -1,7 +1,7 @@
 #!/usr/bin/env bash
 # How long `script` with its tape and `tune` of that tape take, and how much memory, where the program changes over: 256 items on three disks, 1,000
 # cycles, 800 updates, 8 and 64 readers, each with room for 16 copies, and 0, 1 and 16 replans, the last of them in cycle 961 (with one: in 501). A replan cuts
-# the items into the same disks in another order, so that each cycle has 352 slots, whatever its edition.
+# the items into the same disks in another order, so that each cycle has 352 slots, in every edition.
 # Usage: bench/replans.sh [RUNS]. With BEFORE set to a program that knows no replans, the decks without one are timed with it, too.
 # Prints a row for each deck and command: the median of the runs and the least in milliseconds, the bytes of the tape, and the most memory in kilobytes (a dash
 # where GNU time is missing). Then a line for each aim, with what was found: with no replan at most 3 per cent slower than before, with 16 at

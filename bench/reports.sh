@@ -1,7 +1,7 @@
 #!/usr/bin/env bash
-# How long `read_report` takes, and how much memory, beside a bare pass over the records of the same text.
+# How long `read_report` takes, and how much memory, compared with a bare pass over the records of the same text.
 # Usage: bench/reports.sh [BYTES [RUNS]]. Prints a table: the report of a busy deck first, then one of each kind of line, each of
-# about so many bytes (134,217,728 where none are told, the limit of a report). Pass and report are read in turns, and each time
+# about this many bytes (134,217,728 where none are told, the limit of a report). Pass and report are read in turns, and each time
 # is the least of the runs, as other work on the machine only adds to it. Each memory is the peak of the process that GNU time
 # tells (a dash where it is not installed), with that of reading the files alone before it; a line is what the report takes more,
 # by the number of lines. The program is bench/reports.txt.
@@ -26,7 +26,7 @@ awk 'BEGIN {
     print "set,monitors,16"
 }' >"$scratch/deck.csv"
 
-# report KIND BYTES: lines of the kind, until there are no fewer than so many bytes but for the last line. What is read has values of
+# report KIND BYTES: lines of the kind, until there are no fewer than this many bytes except for the last line. What is read has values of
 # twenty digits and cycles of four. `busy` has every update's commit with 10,000 starts among them, then in turn an accept and three
 # aborts a query until a tenth of the bytes is left, counts of each reader, and glances and looks
 report() {

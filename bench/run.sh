@@ -1,6 +1,6 @@
 #!/usr/bin/env bash
 # How long `run` takes, with and without monitors: the deck of 40 items on three disks with 1,000 updates and 20 cycles; and a
-# flat one of 256 items, 4 updaters, 20,000 updates and 1,000 cycles, beside a plain copy of its tape.
+# flat one of 256 items, 4 updaters, 20,000 updates and 1,000 cycles, compared with a plain copy of its tape.
 # Usage: bench/run.sh [RUNS]. Prints a row a deck and number of monitors: the median of the runs' times, with the commits and the
 # bytes of the tape, and how many of each that is a second.
 set -u

@@ -12,7 +12,7 @@ airdisk.prefs.port = Pref.uint("UDP port", 4100, "the port to which buckets are 
 local kinds = { [0] = "idle", [1] = "column", [2] = "vector" }
 local IDLE, NO_ITEM, HEAD = 0, 65535, 24
 
--- The bytes of an entry, and the most items: in version 1 an entry stands as it is, in version 2 its age does
+-- The bytes of an entry, and the most items: in version 1 an entry is there as it is, in version 2 its age is
 local rows = { [1] = { width = 4, most = 256 }, [2] = { width = 1, most = 1024 } }
 
 -- The age that tells the entry 0
@@ -97,7 +97,7 @@ local function add_age(tree, byte, cycle, item)
     tree:add(fields.age, byte):set_text("Age of item " .. item .. ": " .. age)
 end
 
--- Adds what stands behind the head: entries of four bytes, or from version 2 on their ages, each with its item, and what is too short for one
+-- Adds what is after the head: entries of four bytes, or from version 2 on their ages, each with its item, and what is too short for one
 local function add_entries(tree, bytes)
     local at, item = HEAD, 0
     local row = bytes:len() >= HEAD and rows[bytes(2, 1):uint()] or rows[1]
@@ -144,7 +144,7 @@ function airdisk.dissector(bytes, packet, root)
     return bytes:len()
 end
 
--- No dissector of a port is called for an empty datagram, so the end mark is found behind all others
+-- No dissector of a port is called for an empty datagram, so the end mark is found after all others
 local over = Proto("airdisk_end", "Broadcast end mark")
 local port_of, length_of = Field.new("udp.dstport"), Field.new("udp.length")
 

@@ -114,7 +114,7 @@ def read_table(name):
 
 
 def scaled(value, decimals, where):
-    """The number that stands for a value; there is one of so many decimals within 63 bits either way."""
+    """The number that stands for a value; there is one of this many decimals within 63 bits either way."""
     whole = int(value.scaleb(decimals))
     if not -NUMBERS // 2 <= whole < NUMBERS // 2:
         stop(f"{where}: {value} is too large with {decimals} decimals")

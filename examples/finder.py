@@ -3,8 +3,10 @@
 
 usage: examples/finder.py TAPE ITEM FROM    prints what `airdisk seek TAPE ITEM FROM` prints
 
-It opens at most three records, and steps over the others by their lengths alone. Where the tape is cut, the line of that is printed, and the status is 6.
+It opens at most three records, and steps over the others by their lengths alone. If the tape is cut, the line of that is printed, and the status is 6.
+If these words are no tape's name and two numbers, up to 65534 and 4294967295, `fault,1` is printed, and the status is 1.
 """
+import re
 import struct
 import sys
 
@@ -12,7 +14,7 @@ from receiver import Bucket, decode, records
 
 
 def index_of(record):
-    """The entries of an index record, or None where it isn't one."""
+    """The entries of an index record, or None if it isn't one."""
     if len(record) < 13:
         return None
     tag, zeros, cycle, _, count = struct.unpack(">BIIHH", record[:13])
@@ -23,7 +25,7 @@ def index_of(record):
 
 
 def data_of(record):
-    """How many records later the next index is, and the bucket of a data record, or None where it isn't one; an idle bucket has no item: 65535."""
+    """How many records later the next index is, and the bucket of a data record, or None if it isn't one; an idle bucket has no item: 65535."""
     if len(record) < 5 or record[0] != 1:
         return None
     wait, bucket = int.from_bytes(record[1:5], "big"), decode(record[5:])
@@ -37,7 +39,7 @@ class Tape:
         self.records, self.opens = list(records(tape)), 0
 
     def open(self, place):
-        """The record at a place; behind the last one there is none, and nothing is opened."""
+        """The record at a place; after the last one there is none, and nothing is opened."""
         if place >= len(self.records):
             return b""
         self.opens += 1
@@ -64,11 +66,20 @@ def find(tape, item, start):
     return f"lost,{item},{tape.opens}"
 
 
+def number(word, most):
+    """The number that a word spells in digits alone, without a leading zero, or None if it is above the most or spells none."""
+    digits = re.fullmatch("0|[1-9][0-9]{0,9}", word)
+    return int(word) if digits and int(word) <= most else None
+
+
 def main(words):
-    if len(words) != 3:
+    name, item, start = words if len(words) == 3 else ("", "", "")
+    item, start = number(item, 65534), number(start, 4294967295)
+    if not name or item is None or start is None:
+        print("fault,1")
         sys.exit(__doc__)
-    with open(words[0], "rb") as file:
-        print(find(Tape(file.read()), int(words[1]), int(words[2])))
+    with open(name, "rb") as file:
+        print(find(Tape(file.read()), item, start))
 
 
 if __name__ == "__main__":

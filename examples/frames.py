@@ -5,7 +5,7 @@ usage: examples/frames.py out PORT >LINE    hears datagrams at 127.0.0.1:PORT, a
        examples/frames.py in PORT <LINE     sends the datagram of each frame to 127.0.0.1:PORT
 
 Both end with the end mark, which is an empty datagram, `in` also with its line. A frame is the bytes of the datagram, then the CRC-32 of these
-bytes with `AD` behind them, high byte first, where 0xDB is written as 0xDB 0xDD and 0xC0 as 0xDB 0xDC; and then 0xC0 (as in SLIP, RFC
+bytes with `AD` after them, high byte first, where 0xDB is written as 0xDB 0xDD and 0xC0 as 0xDB 0xDC; and then 0xC0 (as in SLIP, RFC
 1055). What is no frame is left out and counted: so what a line changes is lost, and not heard as something else.
 """
 import os
@@ -28,13 +28,13 @@ def framed(data):
 
 
 def unframed(frame):
-    """The datagram of a frame, which is here without its last byte; None where it is none."""
+    """The datagram of a frame, which is here without its last byte; None if it is none."""
     whole = frame.replace(b"\xdb\xdc", END).replace(b"\xdb\xdd", b"\xdb")
     return whole[:-4] if len(whole) >= 4 and whole[-4:] == check(whole[:-4]) else None
 
 
 def hear(port, heard):
-    """Puts what comes to the port where it is waited for, up to the end mark."""
+    """Puts what arrives at the port where it is waited for, up to the end mark."""
     with socket.socket(socket.AF_INET, socket.SOCK_DGRAM) as ear:
         ear.setsockopt(socket.SOL_SOCKET, socket.SO_RCVBUF, 1 << 22)
         ear.bind(("127.0.0.1", port))

@@ -25,7 +25,7 @@ def port_of(word):
 
 
 def datagrams(port, most):
-    """What comes to the port, as it comes, up to the end mark or to so many datagrams; each is cut to 2,048 bytes."""
+    """What arrives at the port, as it comes, up to the end mark or to this many datagrams; each is cut to 2,048 bytes."""
     with socket.socket(socket.AF_INET, socket.SOCK_DGRAM) as ear:
         ear.setsockopt(socket.SOL_SOCKET, socket.SO_RCVBUF, 1 << 22)
         try:

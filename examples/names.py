@@ -6,7 +6,7 @@ usage: examples/names.py NAMES [TEXT]                    TEXT, or standard input
 
 NAMES is the file that deck_from_table.py makes with a deck: a line `item,name,form` for each item, where the form says how its values are
 written: a number of decimals, or `time` for minutes as hours and minutes. A line that is none of a plan, a report or an audit is a note: there
-each `item 3` gets the item's name behind it.
+each `item 3` gets the item's name after it.
 """
 import csv
 import decimal
@@ -90,7 +90,7 @@ class Names:
         return row
 
     def note(self, line):
-        """A note, with the name of each item behind its number."""
+        """A note, with the name of each item after its number."""
         def shown(found):
             item = int(found.group(2))
             return found.group(0) + (f" ({self.names[item][0]})" if item in self.names else "")

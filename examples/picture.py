@@ -5,7 +5,7 @@ usage: examples/picture.py [--names NAMES] TEXT.. >picture.svg      each TEXT is
 
 Of a plan: for each of its programs the slots of a cycle from left to right, a row for each disk, or, where they are too many for one line, line
 below line with a strip of its disk's colour over each; the darker an item, the higher its rate. Of a report: what was committed in each cycle, and a row for each attempt of
-each reader: what it read in which cycle, whether it was accepted, and why it was not. Behind a plan each read stands at the slot of its item. NAMES
+each reader: what it read in which cycle, whether it was accepted, and why it was not. With a plan each read is at the slot of its item. NAMES
 is the file that deck_from_table.py makes: with it items have their names and values. What is too much to draw is left out, and counted.
 """
 import csv
@@ -22,7 +22,7 @@ YELLOW, GOLD = "#fff8c5", "#d4a72c"
 COLOURS = {"accept": "#1a7f37", "abort": "#cf222e", "unfinished": "#8c959f", "aged": "#9a6700"}
 ENDS = {"accept": "accepted", "abort": "aborted", "unfinished": "left unfinished", "aged": "aged, as its reads lie too far apart"}
 DISKS = ["#d29922", "#1a7f37", "#8250df", "#cf222e", "#0969da", "#bf3989", "#57606a", "#1b7c83"]
-# the lines of a plan and of a report: a tag, so many numbers, and lists
+# the lines of a plan and of a report: a tag, this many numbers, and lists
 READS = r"(\d+@\d+=\d+( \d+@\d+=\d+)*)?"
 PLAN = re.compile(r"replan(,\d+){2}|program(,\d+){3}|disk(,\d+){4}|minor,\d+,(\d+|-)( (\d+|-))*|item(,\d+){6}", re.ASCII)
 REPORT = re.compile(rf"start|commit(,\d+){{2}}|(accept|unfinished)(,\d+){{3}},{READS}|abort(,\d+){{3}},{READS},\d+@\d+,\d+"
@@ -123,7 +123,7 @@ def draw_history(picture, commits, columns, wide):
 
 
 def spots(picture, reads, after):
-    """Where in its cycle each read stands, as a share of it: at its item's next slot, where the plan is known; else one beside the other."""
+    """Where in its cycle each read is, as a share of it: at its item's next slot, if the plan is known; else one next to the other."""
     if picture.programs is None:
         total = {cycle: sum(other == cycle for _, other, _ in reads) for _, cycle, _ in reads}
         seen, found = {}, []
@@ -185,7 +185,7 @@ def draw_axis(picture, columns, wide):
 
 
 def draw_readers(picture, rows, columns, wide):
-    """A band for each reader, a row for each of its attempts; the notes behind them."""
+    """A band for each reader, a row for each of its attempts; the notes after them."""
     notes = []
     for counts in (row for row in rows if row[0] == "counts"):
         opened, dozed, late, refused, foreign, copied = counts[2:]

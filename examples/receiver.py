@@ -19,7 +19,7 @@ class Bucket(namedtuple("Bucket", "version kind edition count cycle slot item va
 
 
 def entries_of(version, cycle, data):
-    """The entries that stand behind the head, or None where one isn't of its row: as they are, or from version 2 on as ages of one byte each."""
+    """The entries that are after the head, or None if one isn't of its row: as they are, or from version 2 on as ages of one byte each."""
     if version == 1:
         entries = struct.unpack(f">{len(data) // 4}I", data)
         return None if any(entry >= cycle for entry in entries) else entries

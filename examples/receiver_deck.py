@@ -1,4 +1,4 @@
-"""What a receiver needs of a deck, written from docs/FORMATS.md alone: its readers with their queries, which item stands in which slot of which
+"""What a receiver needs of a deck, written from docs/FORMATS.md alone: its readers with their queries, which item is in which slot of which
 cycle, and what its policy says of reads. The deck is taken to be without faults.
 """
 import csv
@@ -6,12 +6,12 @@ from functools import reduce
 from math import gcd
 
 IDLE, COLUMN, VECTOR = 0, 1, 2
-# the age that tells the entry 0; reads that lie so many cycles apart can't be judged by ages
+# the age that tells the entry 0; reads that lie this many cycles apart can't be judged by ages
 OLD = 255
 
 
 def program_of(rates, disks, delta):
-    """The item of each slot, None where it is idle; and what a copy of each item is worth."""
+    """The item of each slot, None if it is idle; and what a copy of each item is worth."""
     step = lambda number: (len(disks) - number) * delta + 1
     frequencies = [step(number) if freq == "-" else int(freq) for number, (_, freq) in enumerate(disks, 1)]
     minors = reduce(lambda a, b: a * b // gcd(a, b), frequencies)

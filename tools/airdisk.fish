@@ -1,7 +1,7 @@
 # Made by tools/manual from the text of airdisk --help. To have fish complete the words of airdisk: source tools/airdisk.fish
 complete -c airdisk -f
 complete -c airdisk -n 'test (count (commandline -opc)) -eq 1' -a 'plan' -d 'print the broadcast program of a deck'
-complete -c airdisk -n 'test (count (commandline -opc)) -eq 1' -a 'split' -d 'print the disk sizes of least expected wait, beside the deck\'s own'
+complete -c airdisk -n 'test (count (commandline -opc)) -eq 1' -a 'split' -d 'print the disk sizes of least expected wait, and what the deck\'s own cost'
 complete -c airdisk -n 'test (count (commandline -opc)) -eq 1' -a 'script' -d 'run the script of a deck, and print the report of its readers'
 complete -c airdisk -n 'test (count (commandline -opc)) -eq 1' -a 'tune' -d 'let the readers of a deck hear a tape, and print their report'
 complete -c airdisk -n 'test (count (commandline -opc)) -eq 1' -a 'beam' -d 'run the script of a deck, write it to an indexed tape, and print how many records it has'
@@ -10,7 +10,7 @@ complete -c airdisk -n 'test (count (commandline -opc)) -eq 1' -a 'drill' -d 'ma
 complete -c airdisk -n 'test (count (commandline -opc)) -eq 1' -a 'audit' -d 'replay a report by its own history, and print which of its lines agree'
 complete -c airdisk -n 'test (count (commandline -opc)) -eq 1' -a 'run' -d 'run a deck on threads, print the report, and write the tape'
 complete -c airdisk -n 'test (count (commandline -opc)) -eq 1' -a 'cast' -d 'run a deck on threads, send what is aired to a port of this machine, and print the history'
-complete -c airdisk -n 'test (count (commandline -opc)) -eq 1' -a 'listen' -d 'let the readers of a deck hear what comes to a port, and print their report'
+complete -c airdisk -n 'test (count (commandline -opc)) -eq 1' -a 'listen' -d 'let the readers of a deck hear what arrives at a port, and print their report'
 complete -c airdisk -n 'test (count (commandline -opc)) -eq 1' -a '--help' -d 'print this text'
 complete -c airdisk -n 'test (count (commandline -opc)) -eq 1' -a '-h' -d 'print this text'
 complete -c airdisk -n 'test (count (commandline -opc)) -eq 1' -a '--version' -d 'print the version'

@@ -4,7 +4,7 @@ import re
 # Numbers at the edges of what is read
 EDGES = [0, 1, 2, 3, 7, 8, 9, 15, 16, 17, 63, 64, 65, 99, 100, 101, 255, 256, 257, 9_999, 10_000, 10_001, 16_384, 65_535, 65_536, 999_999, 1_000_000, 1_000_001,
          2**31 - 1, 2**31, 2**32 - 2, 2**32 - 1, 2**32, 2**63, 2**64 - 1, 2**64, 10**40]
-# What stands in place of a number, too
+# What is put in place of a number, too
 ODD = [b"", b"-", b"-1", b"+1", b"01", b"1.5", b" 1", b"1 ", b"x", b"\xff", b"0x1", b'"1"', b"1\n", b"1,1", b"="]
 
 

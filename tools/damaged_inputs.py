@@ -101,7 +101,7 @@ class Input:
         if whole is not None:
             bytes_ = damaged(draw, whole) if self.files["DECK"] == deck or draw.randrange(2) else whole
             if other == "AIR":
-                # what stands behind a record's length, 60,000 bytes of it at most
+                # what is after a record's length, 60,000 bytes of it at most
                 self.air = [part[4:60_004] for part in parts_of(bytes_ + b"\0" * (b"\0" not in bytes_))]
             else:
                 self.files[other] = bytes_

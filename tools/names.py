@@ -25,7 +25,7 @@ def short(path):
     return os.path.relpath(path, CRATES)
 
 
-# ---- where names stand
+# ---- where names are
 
 
 class Part:
@@ -117,7 +117,7 @@ class Modules:
         return self.known[path]
 
     def find(self, parts, name):
-        """The part of this name in the module of these parts, or None where it isn't the repository's."""
+        """The part of this name in the module of these parts, or None if it isn't the repository's."""
         crate = parts[0]
         if not os.path.isdir(os.path.join(CRATES, crate)):
             return None
@@ -239,14 +239,20 @@ def reached(modules, without=None):
     return list(reached_from(modules, waiting, without).values())
 
 
+def stated(text):
+    """The lines of a module of examples that aren't only told to the prover: all but those that unfold."""
+    return "\n".join(line for line in plain(text) if not line.lstrip().startswith("unfolding "))
+
+
 def spoken(modules):
-    """What examples and laws name: what stands in modules of examples, and in the clauses of functions with empty bodies."""
+    """What examples and laws name: what is in modules of examples outside of `unfolding`, and in the clauses of functions with
+    empty bodies."""
     found = set()
     for folder, _, files in os.walk(CRATES):
         for file in files:
             path = os.path.join(folder, file)
             if file.endswith("Examples.antt"):
-                found |= modules.named(path, "\n".join(plain(read(path))))
+                found |= modules.named(path, stated(read(path)))
             elif file.endswith(".rt") and f"{os.sep}src" in folder:
                 for law in LAW.finditer(read(path)):
                     found |= modules.named(path, law.group(1))

@@ -59,7 +59,7 @@ class Skip(Exception):
 
 
 def read(path):
-    """The bytes of a file, and None where there is none."""
+    """The bytes of a file, and None if there is none."""
     try:
         with open(path, "rb") as file:
             return file.read()

@@ -35,8 +35,8 @@ CHANGES = [
     ("index", r"(?<=\w)(\.1)\b", ".0", None),
     ("index", r"\b(take)\b", "drop", "drop"),
     ("index", r"\b(drop)\b", "take", "take"),
-    ("index", r"\b(before)\.", "now", None),
-    ("index", r"\b(old)\.", "new", None),
+    ("index", r"(?<!λ )\b(before)\.", "now", None),
+    ("index", r"(?<!λ )\b(old)\.", "new", None),
     ("index", r"\b(?:get_or|slice_get) (?:[\w.]+|\([^()]*\)) ([a-z][\w.]*)", "({} + 1)", "◌+◌"),
     ("index", r"( % )", " / ", "◌/◌"),
     ("index", r"( / )", " % ", "◌%◌"),
@@ -54,6 +54,8 @@ CHANGES = [
 ]
 # Kinds that few types allow.
 LAST = ("order", "variable")
+# What begins a type that is no statement.
+DATA = ("List", "Option", "Result", "Type", "Unit")
 # Calls that take a function or a test, and then a list; their arguments aren't exchanged.
 LISTS = ("cond", "map", "filter", "filter_map", "flat_map", "count_by", "sum_by", "list_any", "list_all", "fold", "All", "codes", "take", "drop")
 
@@ -95,7 +97,7 @@ def changed(line, found, new, kind):
 
 
 def signature(part):
-    """The lines of a definition before its first equation: its type, and what stands before that."""
+    """The lines of a definition before its first equation: its type, and what is before that."""
     if part.kind != "definition":
         return 0
     head = next(at for at, line in enumerate(part.lines) if re.match(r" *(abbrev |unfoldable )?(pub )?\S+ :( |$)", line) and not line.startswith(("infix", "module")))
@@ -115,7 +117,7 @@ def exchanged(part):
 
 
 def groups(text, at):
-    """Splits what stands from `at` on into arguments, a name or a group in parentheses each; their ends."""
+    """Splits what is from `at` on into arguments, a name or a group in parentheses each; their ends."""
     found = []
     while at < len(text):
         if text[at] == "(":
@@ -184,9 +186,9 @@ def others(line, first):
             yield "end", line[: found.start(1)] + str(int(found.group(1)) + 1) + line[found.end(1):], None
     for found in re.finditer(r"( \+\+ [\w.]+)(?=;)", line):
         yield "end", replaced(line, found, ""), None
-    for found in re.finditer(r" ⊎ (.+)$", line):
+    for found in re.finditer(r" ⊎ (.+?);?$", line):
         if found.start() >= first:
-            yield "case", line[: found.start(1)] + "⊥", None
+            yield "case", replaced(line, found, "⊥"), None
     head = re.match(r" *(?:pub )?\S+ ([^=]*?) = ", line)
     if head:
         names = [n for n in re.findall(r"(?<![\w.])[a-zA-Z]\w*", head.group(1)) if n[0].islower() or len(n) == 1]
@@ -195,6 +197,35 @@ def others(line, first):
                 for name in names:
                     if name != found.group(1):
                         yield "variable", line[: first + found.start(1)] + name + line[first + found.end(1):], None
+
+
+def is_relation(text):
+    """Whether a type is a statement of a named relation: a name and its arguments, after what it holds for and its premises."""
+    depth, last = 0, 0
+    for at, sign in enumerate(text):
+        depth += (sign in "({[") - (sign in ")}]")
+        last = at + 3 if depth == 0 and text.startswith(" → ", at) else last
+    found = re.match(r"([A-Z]\w*) [^<≤≡≢]", text[last:])
+    return found is not None and found.group(1) not in DATA
+
+
+def left_out(part, line, more, first):
+    """The line with `⊤` for a statement of a named relation: for the type of a record's field, or for one that is between `×`."""
+    field = re.match(r" +pub \w+ : (.+)$", line) if part.kind == "record" else None
+    if field and not more and is_relation(field.group(1)):
+        yield replaced(line, field, "⊤")
+    elif part.kind == "definition":
+        start, depth, found = first, 0, []
+        for at in range(first, len(line) + 1):
+            if at == len(line) or (depth == 0 and line.startswith(" × ", at)):
+                found.append((start, at))
+                start = at + 3
+            if at < len(line):
+                depth += (line[at] in "({[") - (line[at] in ")}]")
+        for start, end in found if len(found) > 1 else []:
+            text = line[start:end].strip()
+            if is_relation(text) and "→" not in text:
+                yield line[: start + line[start:end].index(text)] + "⊤" + line[start + line[start:end].index(text) + len(text) :]
 
 
 def variants(text, line, first):
@@ -228,6 +259,8 @@ def changes_of(part):
             right = line.index(mark) + 2 if mark in line and not line.startswith("   ") else 0
             made.extend(Change(part, places[number], kind, line, new, needs) for kind, new, needs in others(line, right))
             made.extend(Change(part, places[number], "case", line, new, None) for new in variants("\n".join(lines), line, right))
+            more = number + 1 < len(part.lines) and re.match(r"    ", part.lines[number + 1])
+            made.extend(Change(part, places[number], "left out", line, new, "⊤") for new in left_out(part, line, more, right))
     seen, kept = set(), []
     for change in made:
         if change.made != change.line and balance(change.made) == balance(change.line) and (change.at, change.made) not in seen:
@@ -237,12 +270,12 @@ def changes_of(part):
 
 
 def ordered(part):
-    """The changes of a definition, from one that its name picks, so that not all definitions are changed alike; those that few types
-    allow are the last."""
+    """The changes of a definition: what leaves out a whole statement, then the others from one that its name picks, so that not all
+    definitions are changed alike; those that few types allow are the last."""
     changes = changes_of(part)
-    made = [change for change in changes if change.kind not in LAST]
+    made = [change for change in changes if change.kind not in LAST + ("left out",)]
     first = sum(part.name.encode()) % len(made) if made else 0
-    return made[first:] + made[:first] + [change for change in changes if change.kind in LAST]
+    return [change for change in changes if change.kind == "left out"] + made[first:] + made[:first] + [change for change in changes if change.kind in LAST]
 
 
 def imported(text, name):

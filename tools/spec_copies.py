@@ -27,6 +27,10 @@ class Example:
             self.own = {what for _, _, what in pieces.tokens(piece.path, said)} | set(pieces.marks(piece.path, said))
             self.uses = pieces.closure(self.own)
 
+    def refuses(self):
+        """Whether it says that something isn't so."""
+        return "⊥" in (self.text or "\n".join(self.piece.plain()))
+
     def __str__(self):
         return f"{names.short(self.path)}:{self.piece.first + 1} {self.piece.name}" + (f".{self.field}" if self.field else "")
 
@@ -35,7 +39,7 @@ class Example:
 
 
 def inline_fields(line):
-    """The fields of a value of a record that stands on one line: a line of each."""
+    """The fields of a value of a record that is on one line: a line of each."""
     found, depth, start = {}, 0, 0
     inner = line[line.index("{") + 1 : line.rindex("}")] + ";"
     for at, sign in enumerate(inner):
@@ -83,7 +87,7 @@ def examples_in(pieces, path):
 
 
 class Copies:
-    """The copies that some changes want: of each change the changed definition, what stands between it and each of its examples, and
+    """The copies that some changes want: of each change the changed definition, what is between it and each of its examples, and
     the examples. A change of None is the definition as it is."""
 
     def __init__(self, pieces):
@@ -103,7 +107,7 @@ class Copies:
         return text
 
     def put(self, piece, found, mark, tag, change=None):
-        """Puts a copy of a declaration behind it, once."""
+        """Puts a copy of a declaration after it, once."""
         if (piece, mark) not in self.made:
             self.made.add((piece, mark))
             lines = list(piece.lines)
@@ -127,7 +131,7 @@ class Copies:
                 self.puts.setdefault(example.path, []).append((example.piece.last, text, (number, example)))
 
     def texts(self):
-        """The files with all copies in them, and what stands at which line: by path and line the tag of the copy."""
+        """The files with all copies in them, and what is at which line: by path and line the tag of the copy."""
         made, places = {}, {}
         for path in set(self.puts) | set(self.uses):
             lines = [(line, None) for line in names.read(path).split("\n")]
@@ -141,7 +145,7 @@ class Copies:
 
 
 def between(pieces, target, example):
-    """What rests on a definition and an example rests on it, the definition among it: None where one of these can't be copied."""
+    """What rests on a definition and an example rests on it, the definition among it: None if one of these can't be copied."""
     found = {piece for piece in example.uses if target in pieces.all_of(piece)} | {target}
     if example.field is None:
         found.add(example.piece)

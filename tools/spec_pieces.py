@@ -41,7 +41,7 @@ class Piece:
         return re.match(r" *(?:abbrev )?(?:pub )?record ", self.lines[0]) is not None
 
     def can_be_copied(self):
-        """Whether it has a plain name, and no names of its own beside it, and stands in no section of a proof."""
+        """Whether it has a plain name and no further names, and is in no section of a proof."""
         is_plain = re.fullmatch(names.NAME, self.name) is not None and not re.match(r" *(?:pub )?data ", self.lines[0])
         return is_plain and not (self.indent and f"{os.sep}proofs{os.sep}" in self.path)
 
@@ -127,7 +127,7 @@ class Pieces:
 
     @staticmethod
     def is_label(text, start, name):
-        """Whether a name stands as that of a field."""
+        """Whether a name is that of a field."""
         before = text[:start]
         after = text[start + len(name) :]
         if re.match(r" = ", after) or re.match(r" =$", after, re.M):

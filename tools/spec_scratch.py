@@ -13,7 +13,7 @@ from spec_pieces import module  # noqa: E402
 TOP = believed.TOP
 PROBE = "examples_probe"
 ERROR = re.compile(r"^\./([\w/+\-.]+\.(?:antt|rt)):(\d+):\d+: error: (.*)$", re.M)
-# What stands on a declaration that was refused isn't checked.
+# What depends on a declaration that was refused isn't checked.
 NOT_CHECKED = re.compile(r"\d+ declarations? that depends? on ")
 
 

@@ -6,7 +6,7 @@ LATER = 2**62
 
 # Of the file that REFUSE_NAME names, or of standard output where that is empty, the calls REFUSE_CALL are counted: those of a name, or for
 # `empty` each that empties the file. Those that are refused fail with the error REFUSE_ERROR; the write REFUSE_PART takes its bytes divided
-# by REFUSE_SHARE, and none where that is 0.
+# by REFUSE_SHARE, and none if that is 0.
 CALLS = r"""
 #include <stdarg.h>
 #include <string.h>
@@ -110,7 +110,7 @@ class Fault(NamedTuple):
     last: int = 0
     error: int = errno.ENOSPC
     share: Optional[int] = None
-    is_told: Optional[bool] = True  # whether the run fails by it; None where it may
+    is_told: Optional[bool] = True  # whether the run fails by it; None if it may
 
 
 # The calls on an output: those that begin it, those that add to it, and those that may end it
