@@ -1,6 +1,6 @@
 -- What statuses of the top call mean on the told shelf: positive and negative examples of each relation.
-use Rattle.std.proofs.Common.{◌≡◌, ◌≤◌, ℕ, Bool, true, false, List, [], Option, Some, None, length, refl, sym, ap, subst, inl, inr, arith}
-use Rattle.std.specs.Prelude.{codes, if◌then◌else◌, nat_eq}
+use Rattle.std.proofs.Common.{◌≡◌, ◌≤◌, ℕ, zero, suc, Bool, true, false, List, [], ◌∷◌, Option, Some, None, get_or, length, refl, sym, ap, subst, inl, inr, arith}
+use Rattle.std.specs.Prelude.{codes, if◌then◌else◌, nat_eq, take}
 use Rattle.std.specs.Prelude.{◌⊎◌}
 use Rattle.std.specs.Io.KnownBytes.{IsAtEnd}
 use Rattle.std.specs.Cmp.Lexicographic.{pointwise}
@@ -79,6 +79,12 @@ not_holds h = let same : codes "abc" ≡ codes "ab" = cc in let n : 3 ≡ 2 = ap
 
 holds_part : OutputHoldsBeginning (codes "o") (codes "ab") shelf (holding (codes "a") shelf) × OutputHoldsBeginning (codes "o") (codes "ab") shelf shelf
 holds_part = (inr (1, refl), inl refl)
+
+-- Other bytes aren't the first of them.
+not_holds_part : OutputHoldsBeginning (codes "o") (codes "ab") shelf (holding (codes "b") shelf) → ⊥
+not_holds_part (inl same) = let none : Some (codes "b") ≡ Some [] = same in cc
+not_holds_part (inr (zero, held)) = let none : Some (codes "b") ≡ Some [] = held in cc
+not_holds_part (inr (suc n, held)) = let part : codes "b" ≡ 97 ∷ take n (codes "b") = cc in let letter : 98 ≡ 97 = ap (λ l. get_or l 0 0) part in omega (arith, letter)
 
 given : IsGiven None (plan_given small) shelf (with_printed (plan_output small))
 given = record { written = tt; printed = refl }

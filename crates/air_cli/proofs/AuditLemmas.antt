@@ -8,6 +8,7 @@ use Rattle.air_devices.specs.Unchanged.{KeepsButLeft, KeepsButPrinted}
 use Rattle.air_devices.specs.Shelves.{ShelfState}
 use Rattle.air_devices.specs.WhatIsTold.{ToldIs, WhereTold}
 use Rattle.air_model.specs.Decks.{Deck, IsDeck}
+use Rattle.item_catalog.specs.DeckLimits.{WithinLimits}
 use Rattle.air_report.specs.declared.status.Status.{Status}
 use Rattle.air_report.specs.declared.status.Status.TheVariants as status
 use Rattle.air_report.specs.declared.reading.ReadReport.{ReadReport}
@@ -66,7 +67,7 @@ of_report deck report before P (d, spells, made, has) = of_deck deck before d (�
     (of_bytes report before (λ bytes. (length bytes ≤ MOST_REPORT_BYTES) × P d bytes) has)
 
 -- Bytes that were read to their end and aren't audited have no audit.
-pub unaudited : (deck report : List ℕ) (before now : ShelfState) (d : Deck) (read : List ℕ) (s : Status) → IsAtEnd (now.told.left report) → SpellsDeck deck before d → IsDeck d
+pub unaudited : (deck report : List ℕ) (before now : ShelfState) (d : Deck) (read : List ℕ) (s : Status) → IsAtEnd (now.told.left report) → SpellsDeck deck before d → IsDeck d × WithinLimits d
     → ToldIs (before.told.file report) read → length read ≤ MOST_REPORT_BYTES → UnauditedCause d read s → AuditCause deck report before now s
 unfolding AuditCause DeckCause UnreadCause UnauditedCause
 unaudited deck report before now d read (status.Report row kind) end spells made known few h = (end, (d, spells, made, (read, known, (few, h))))
@@ -77,25 +78,25 @@ unaudited deck report before now d read s end spells made known few h = absurd h
 -- ---- the deck was read, and then the report
 
 -- The report could not be read.
-pub unread_later : (deck report : List ℕ) (before mid now : ShelfState) (d : Deck) (s : Status) → SpellsDeck deck before d → IsDeck d → KeepsButLeft deck before.told mid.told
+pub unread_later : (deck report : List ℕ) (before mid now : ShelfState) (d : Deck) (s : Status) → SpellsDeck deck before d → IsDeck d × WithinLimits d → KeepsButLeft deck before.told mid.told
     → KeepsCounts before.faults mid.faults → UnreadCause report MOST_REPORT_BYTES mid now s → (s ≢ status.ReadFault → KeepsCounts mid.faults now.faults)
     → IsUnmade (audit_meaning deck report) before now s
 unread_later deck report before mid now d s spells made first calm unread kept = record {
-  cause = unread_audit deck report before now s (d, spells, made, tt) (unread_since report MOST_REPORT_BYTES before mid now s (first.files report) calm unread);
+  cause = λ some. unread_audit deck report before now s (d, spells, made, tt) (unread_since report MOST_REPORT_BYTES before mid now s (first.files report) calm unread);
   kept = λ read. kept_twice before.faults mid.faults now.faults calm (kept read);
 }
 
 -- It was read, and isn't audited.
-pub unaudited_later : (deck report : List ℕ) (before mid now : ShelfState) (d : Deck) (bytes read : List ℕ) (s : Status) → SpellsDeck deck before d → IsDeck d
+pub unaudited_later : (deck report : List ℕ) (before mid now : ShelfState) (d : Deck) (bytes read : List ℕ) (s : Status) → SpellsDeck deck before d → IsDeck d × WithinLimits d
     → KeepsButLeft deck before.told mid.told → KeepsCounts before.faults mid.faults → ToldIs (mid.told.file report) bytes → length bytes ≤ MOST_REPORT_BYTES → read ≡ bytes
     → IsAtEnd (now.told.left report) → KeepsCounts mid.faults now.faults → UnauditedCause d read s → IsUnmade (audit_meaning deck report) before now s
 unaudited_later deck report before mid now d bytes read s spells made first calm known few is end later cause = record {
-  cause = unaudited deck report before now d read s end spells made (told_first report before mid bytes read known (first.files report) is) (subst (λ b. length b ≤ MOST_REPORT_BYTES) (sym is) few) cause;
+  cause = λ some. unaudited deck report before now d read s end spells made (told_first report before mid bytes read known (first.files report) is) (subst (λ b. length b ≤ MOST_REPORT_BYTES) (sym is) few) cause;
   kept = λ none. kept_twice before.faults mid.faults now.faults calm later;
 }
 
 -- It was audited.
-pub audited_later : (deck report : List ℕ) (before mid now : ShelfState) (d : Deck) (bytes read text : List ℕ) (differs : Bool) → SpellsDeck deck before d → IsDeck d
+pub audited_later : (deck report : List ℕ) (before mid now : ShelfState) (d : Deck) (bytes read text : List ℕ) (differs : Bool) → SpellsDeck deck before d → IsDeck d × WithinLimits d
     → KeepsButLeft deck before.told mid.told → IsAtEnd (mid.told.left deck) → KeepsCounts before.faults mid.faults → ToldIs (mid.told.file report) bytes
     → length bytes ≤ MOST_REPORT_BYTES → read ≡ bytes → KeepsButLeft report mid.told now.told → IsAtEnd (now.told.left report) → KeepsCounts mid.faults now.faults
     → (found : List Finding) × (text ≡ findings_text found) × (differs ≡ some_differ found) × IsAudit d read found

@@ -8,10 +8,11 @@ use Rattle.air_devices.specs.Shelves.{ShelfState}
 use Rattle.air_devices.specs.WhatIsTold.{WhereTold}
 use Rattle.air_history.specs.Histories.{is_start, starts}
 use Rattle.air_index.specs.Indexes.{is_index}
-use Rattle.air_index.specs.IndexedTapes.{beam_tape_of, indexed_records, indexed_size, indexed_tape, mark_size, minors_after, records_from, slots_after}
+use Rattle.air_index.specs.IndexedTapes.{beam_tape_of, indexed_size, indexed_tape, mark_size, minors_after, records_from, slots_after}
 use Rattle.air_index.specs.OnAir.{marks_of}
 use Rattle.air_index.proofs.CountLemmas.{history_len, piece_indexes, piece_records}
 use Rattle.air_model.specs.Decks.{Deck, IsDeck, event_of, script_history}
+use Rattle.item_catalog.specs.DeckLimits.{WithinLimits}
 use Rattle.air_model.specs.Disks.{cut, order, order_with}
 use Rattle.air_model.specs.Programs.{chunk, chunk_len, least_common_multiple, minor_cycle, num_chunks, num_minors, program}
 use Rattle.air_model.specs.Rows.{rows_text}
@@ -26,7 +27,7 @@ use Rattle.air_cli.specs.Beam.{BeamCause, BeamGives, beam_given, beam_line, beam
 use Rattle.air_cli.specs.ReportsAndTapes.{ReportAndTape}
 use Rattle.air_cli.specs.ToldInputs.{TellsInputs}
 use Rattle.air_cli.proofs.CommandExamples.{the_deck, within}
-use Rattle.air_cli.proofs.ToldExamples.{files, its_deck, shelf, short, spells_deck}
+use Rattle.air_cli.proofs.ToldExamples.{files, its_deck, shelf, short, small_made, spells_deck}
 
 -- ---- its tape and its line
 
@@ -72,14 +73,14 @@ tells_beam : TellsInputs (beam_meaning (codes "d") (codes "o")) shelf
 tells_beam name is = (its_deck, ap files is)
 
 beam_suits : (beam_meaning (codes "d") (codes "o")).Suits shelf
-beam_suits = (small, spells_deck, small_is_deck, (short, omega (arith, beam_bytes_of_small)))
+beam_suits = (small, spells_deck, small_made, (short, omega (arith, beam_bytes_of_small)))
 
 beam_output : (beam_meaning (codes "d") (codes "o")).output ≡ Some (codes "o")
 beam_output = refl
 
 beam_gives : BeamGives (codes "d") shelf (beam_given small)
 unfolding BeamGives
-beam_gives = (refl, (small, spells_deck, small_is_deck, (short, omega (arith, beam_bytes_of_small), refl)))
+beam_gives = (refl, (small, spells_deck, small_made, (short, omega (arith, beam_bytes_of_small), refl)))
 
 -- It gives its tape, and nothing in it differs.
 not_beam : (BeamGives (codes "d") shelf (record (beam_given small) { tape = [] }) → ⊥) × (BeamGives (codes "d") shelf (record (beam_given small) { differs = true }) → ⊥)
@@ -98,7 +99,7 @@ unfolding BeamCause
 not_too_long bytes (d, is, made, long) =
     let few = subst (λ d. AreShort d × (bytes ≡ length (beam_tape_of d)) × (1073741824 < bytes)) (the_deck d is) long in omega (arith, few.1, few.2, beam_bytes_of_small)
 
-beam_too_long : (d : Deck) (untold : ShelfState) → untold.told.file (codes "d") ≡ None → IsDeck d → AreShort d → length (beam_tape_of d) ≡ 1073741825
+beam_too_long : (d : Deck) (untold : ShelfState) → untold.told.file (codes "d") ≡ None → IsDeck d × WithinLimits d → AreShort d → length (beam_tape_of d) ≡ 1073741825
     → BeamCause (codes "d") untold untold (status.TooLong 1073741825)
 unfolding BeamCause
 beam_too_long d untold none made can counted =

@@ -1,5 +1,5 @@
 -- What the proofs of `cast` need of its definitions.
-use Rattle.std.proofs.Common.{◌≡◌, ℕ, ◌≤◌, List, Some, refl, sym, ap, subst, inl, inr, arith}
+use Rattle.std.proofs.Common.{◌≡◌, ◌≢◌, ℕ, ◌≤◌, List, Some, refl, sym, ap, subst, inl, inr, arith}
 use Rattle.std.specs.Prelude.{◌⊎◌}
 use Rattle.air_base.specs.declared.limits.TheConstants.{MOST_TAPE_BYTES}
 use Rattle.deck_runs.specs.Casts.{IsCastAnswer, all_sent}
@@ -8,6 +8,7 @@ use Rattle.air_devices.specs.Masts.{Changes, MastState}
 use Rattle.air_devices.specs.Shelves.{ShelfState}
 use Rattle.air_devices.specs.Unchanged.{KeepsButPrinted}
 use Rattle.air_model.specs.Decks.{Deck, IsDeck}
+use Rattle.item_catalog.specs.DeckLimits.{WithinLimits}
 use Rattle.air_model.specs.Outputs.{cast_output}
 use Rattle.air_sender.specs.AiredBytes.{aired_bytes}
 use Rattle.deck_runs.specs.declared.threads.RunFault.{RunFault}
@@ -40,23 +41,21 @@ use Rattle.air_cli.proofs.RunMeaningLemmas.{run_fits, run_still, unrunnable_run}
 pub unrunnable_cast : (deck : List ℕ) (to : ℕ) (mast : MastState) (before now : ShelfState) (s : Status) → UnrunnableCause deck before now s → CastCause deck to mast mast before now s
 unfolding CastCause RunCause UnrunnableCause DeckCause UnreadCause
 unrunnable_cast deck to mast before now (status.AirFault at) h = absurd h
-unrunnable_cast deck to mast before now status.NoMemory h = tt
 unrunnable_cast deck to mast before now s h = (unrunnable_run deck before now s h, refl)
 
 -- A deck whose tape would be too long isn't cast either; and a mast may fail.
-pub refused_cast : (deck : List ℕ) (to : ℕ) (old new : MastState) (before now : ShelfState) (d : Deck) (s : Status) → SpellsDeck deck before d → IsDeck d → AreShort d
-    → IsCastRefusal d to old new s → CastCause deck to old new before now s
+pub refused_cast : (deck : List ℕ) (to : ℕ) (old new : MastState) (before now : ShelfState) (d : Deck) (s : Status) → SpellsDeck deck before d → IsDeck d × WithinLimits d → AreShort d
+    → IsCastRefusal d to old new s → s ≢ status.NoMemory → CastCause deck to old new before now s
 unfolding CastCause RunCause UnrunnableCause DeckCause UnreadCause IsCastRefusal
-refused_cast deck to old new before now d (status.TooLong bytes) spells made short h = ((d, spells, made, (short, h.0.counted, h.0.above)), h.1)
-refused_cast deck to old new before now d (status.AirFault at) spells made short h = (d, spells, made, (short, h.0), h.1)
-refused_cast deck to old new before now d status.NoMemory spells made short h = tt
-refused_cast deck to old new before now d s spells made short h = absurd h
+refused_cast deck to old new before now d (status.TooLong bytes) spells made short h some = ((d, spells, made, (short, h.0.counted, h.0.above)), h.1)
+refused_cast deck to old new before now d (status.AirFault at) spells made short h some = (d, spells, made, ((short, h.0), h.1))
+refused_cast deck to old new before now d status.NoMemory spells made short h some = absurd (some refl)
+refused_cast deck to old new before now d s spells made short h some = absurd h
 
 cast_still : (deck : List ℕ) (to : ℕ) (old new : MastState) (before mid now : ShelfState) (s : Status) → KeepsButPrinted mid.told now.told → NoCountFalls mid.faults now.faults
     → CastCause deck to old new before mid s → CastCause deck to old new before now s
 unfolding CastCause
 cast_still deck to old new before mid now (status.AirFault at) rest counts h = h
-cast_still deck to old new before mid now status.NoMemory rest counts h = h
 cast_still deck to old new before mid now s rest counts h = (run_still deck before mid now s rest counts h.0, h.1)
 
 pub cast_sound : (deck : List ℕ) (to : ℕ) (old new : MastState) → IsSound (cast_meaning deck to old new)
@@ -72,8 +71,7 @@ cast_sound deck to old new = record {
 cast_fits : (deck : List ℕ) (to : ℕ) (old new : MastState) (before now : ShelfState) (s : Status) → TellsInputs (cast_meaning deck to old new) before
     → HasDeck deck before CanRun × (Rose old.faults new.faults → ⊥) → NoCountRose before.faults now.faults → CastCause deck to old new before now s → s ≡ status.NoMemory
 unfolding CastCause
-cast_fits deck to old new before now (status.AirFault at) told suits calm h = let broken = h.4 in absurd (suits.1 broken.rose)
-cast_fits deck to old new before now status.NoMemory told suits calm h = refl
+cast_fits deck to old new before now (status.AirFault at) told suits calm h = let broken = h.3.1 in absurd (suits.1 broken.rose)
 cast_fits deck to old new before now s told suits calm h = run_fits deck deck before now s told (of_had deck before CanRun suits.0) calm h.0
 
 pub cast_facts : (deck : List ℕ) (to : ℕ) (old new : MastState) → CommandFacts (cast_meaning deck to old new)
@@ -92,7 +90,7 @@ rose_later before now (inr last) = let stays = last.1 in omega arith
 -- A run that was cast sent all.
 pub all_cast : (d : Deck) (to : ℕ) (before now : MastState) (run : Run) → IsRun d run → Changes (λ _. all_sent (aired_bytes d run.history)) before.told now.told
     → now.faults ≡ before.faults → now.port ≡ Some to → HasSent d to before now
-all_cast d to before now run is sent calm port = record { sent = inr (run.history, is.whole, sent); later = omega (arith, calm); port = port }
+all_cast d to before now run is sent calm port = record { sent = inr (run.history, is.whole, sent, calm); later = omega (arith, calm); port = port }
 
 -- A run that wasn't cast sent the first buckets of a whole history.
 pub part_cast : (d : Deck) (to : ℕ) (before now : MastState) (f : RunFault) → IsCastAnswer d before now f → now.port ≡ Some to → HasSent d to before now
@@ -107,7 +105,7 @@ fault_refused d to before now (fault.Mast at) few h port = (few, record { rose =
 fault_refused d to before now fault.NoMemory few h port = tt
 
 -- What a cast leaves of the mast.
-pub leaves_cast : (deck : List ℕ) (to : ℕ) (shelf : ShelfState) (before now : MastState) (d : Deck) → SpellsDeck deck shelf d → IsDeck d
+pub leaves_cast : (deck : List ℕ) (to : ℕ) (shelf : ShelfState) (before now : MastState) (d : Deck) → SpellsDeck deck shelf d → IsDeck d × WithinLimits d
     → (now ≡ before) ⊎ HasSent d to before now → LeavesMast (Some (AsksCast deck to)) shelf before now
 leaves_cast deck to shelf before now d spells made (inl same) = inl same
 leaves_cast deck to shelf before now d spells made (inr sent) = inr (d, spells, made, sent)

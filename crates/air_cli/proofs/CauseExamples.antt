@@ -2,12 +2,13 @@
 use Rattle.std.proofs.Common.{◌≡◌, ◌≤◌, ◌<◌, ℕ, false, List, [], ◌∷◌, Option, Some, None, length, map, take, refl, ap, inl, inr, arith}
 use Rattle.std.specs.Prelude.{codes}
 use Rattle.air_devices.specs.Ears.{EarState}
-use Rattle.air_devices.specs.Masts.{MastState, nothing_sent}
+use Rattle.air_devices.specs.Masts.{MastState, SentBuckets, nothing_sent}
 use Rattle.air_devices.specs.Shelves.{ShelfState}
 use Rattle.air_history.specs.declared.histories.Event.{Event}
 use Rattle.air_model.specs.Aired.{scheme_in}
 use Rattle.air_model.specs.Buckets.{bucket_in}
 use Rattle.air_model.specs.Decks.{Deck, IsDeck, IsWhole, script_history, values_in}
+use Rattle.item_catalog.specs.DeckLimits.{WithinLimits}
 use Rattle.air_model.specs.Judges.{by_history}
 use Rattle.air_model.specs.Outputs.{script_tape, sessions_over}
 use Rattle.air_model.specs.ReceiverLaws.{IsTrueSession}
@@ -15,12 +16,14 @@ use Rattle.air_model.specs.Reports.{Report, counts_lines, verdict_lines}
 use Rattle.air_model.specs.Tapes.{ends_inside, read_from, tape_read}
 use Rattle.air_index.specs.Seeks.{sought}
 use Rattle.air_index.specs.declared.sought.Sought.TheVariants.{Lost}
+use Rattle.air_sender.specs.AiredBytes.{aired_bytes}
 use Rattle.air_report.specs.ReadReports.{IsReportOf}
 use Rattle.air_report.specs.declared.status.Status.TheVariants as status
 use Rattle.chunk_program.specs.Plans.{AreShort}
+use Rattle.deck_runs.specs.Casts.{first_sent}
 use Rattle.disk_split.specs.SplitAnswers.{AreAllTooLong, search_size}
 use Rattle.disk_split.specs.Splits.{IsBest, IsShortSplit}
-use Rattle.live_replay.proofs.AuditExamples.{its_bytes, small, small_is_deck}
+use Rattle.live_replay.proofs.AuditExamples.{its_bytes, small}
 use Rattle.air_cli.specs.Audit.{AuditCause}
 use Rattle.air_cli.specs.Cast.{HasSent, cast_meaning}
 use Rattle.air_cli.specs.Drill.{DrillGives}
@@ -40,13 +43,10 @@ use Rattle.air_cli.specs.Tune.{TuneCause}
 use Rattle.air_cli.specs.Words.{AsksCast, AsksListen}
 use Rattle.air_cli.specs.Private.GivenTexts.{script_given, split_given}
 use Rattle.air_cli.proofs.ListenExamples.{a, b, fresh_ear, tuned}
-use Rattle.air_cli.proofs.ToldExamples.{shelf, short, spells_deck}
+use Rattle.air_cli.proofs.ToldExamples.{shelf, short, small_made, spells_deck, untold}
 
--- A shelf that tells no file; and one whose every file has these bytes.
-abbrev untold : ShelfState
-untold = record shelf { told = record shelf.told { file = λ name. None } }
-
-abbrev of_bytes : List ℕ → ShelfState
+-- A shelf whose every file has these bytes.
+abbrev pub of_bytes : List ℕ → ShelfState
 of_bytes bytes = record shelf { told = record shelf.told { file = λ name. Some bytes } }
 
 -- ---- files that are too large, and a tape that is cut
@@ -64,8 +64,8 @@ pub files : Files
 unfolding DeckCause AuditCause TuneCause UnheardCause UnreadCause ends_inside read_from
 files = record {
   deck = (refl, tt);
-  report = inr ((small, tt, small_is_deck, tt), (refl, tt));
-  tape = inr ((small, tt, small_is_deck, short), (refl, tt));
+  report = inr ((small, tt, small_made, tt), (refl, tt));
+  tape = inr ((small, tt, small_made, short), (refl, tt));
   sought_tape = (refl, tt);
   one_byte = (0 ∷ [], refl, (omega arith, refl));
   too_many = λ h. let few : length h.0 ≤ 0 = h.2.0 in let same : length h.0 ≡ 1 = ap length h.1 in omega (arith, few, same);
@@ -84,14 +84,14 @@ pub record Given : Type 0 where
   -- a search of 600,000 isn't too much, and one more is
   searched : (d : Deck) (sizes : List ℕ) → search_size d ≡ 600000 → IsShortSplit d sizes → CanBeSplit d
   not_searched : (d : Deck) → search_size d ≡ 600001 → CanBeSplit d → ⊥
-  too_much : (d : Deck) → IsDeck d → search_size d ≡ 600001 → SplitCause (codes "d") untold untold (status.TooMuch 600001)
+  too_much : (d : Deck) → IsDeck d × WithinLimits d → search_size d ≡ 600001 → SplitCause (codes "d") untold untold (status.TooMuch 600001)
   not_too_much : SplitCause (codes "d") untold untold (status.TooMuch 600000) → ⊥
-  all_long : (d : Deck) → IsDeck d → search_size d ≡ 600000 → AreAllTooLong d 5 → SplitCause (codes "d") untold untold (status.PlanTooLong 5)
+  all_long : (d : Deck) → IsDeck d × WithinLimits d → search_size d ≡ 600000 → AreAllTooLong d 5 → SplitCause (codes "d") untold untold (status.PlanTooLong 5)
   searched_first : (h : SplitCause (codes "d") untold untold (status.PlanTooLong 5)) → (d : Deck) × (search_size d ≤ 600000)
-  split : (d : Deck) (sizes : List ℕ) → IsDeck d → search_size d ≡ 600000 → IsBest d sizes → SplitGives (codes "d") untold (split_given d sizes)
+  split : (d : Deck) (sizes : List ℕ) → IsDeck d × WithinLimits d → search_size d ≡ 600000 → IsBest d sizes → SplitGives (codes "d") untold (split_given d sizes)
   split_searched : (given : ReportAndTape) → SplitGives (codes "d") untold given → (d : Deck) × (search_size d ≤ 600000)
   -- a script's tape has at most 1,073,741,824 bytes
-  script : (d : Deck) → IsDeck d → AreShort d → length (script_tape d) ≡ 1073741824 → IsTrueScript d → ScriptGives (codes "d") untold (script_given d)
+  script : (d : Deck) → IsDeck d × WithinLimits d → AreShort d → length (script_tape d) ≡ 1073741824 → IsTrueScript d → ScriptGives (codes "d") untold (script_given d)
   script_fits : (given : ReportAndTape) → ScriptGives (codes "d") untold given → (d : Deck) × (length (script_tape d) ≤ 1073741824)
   -- nothing in a drill differs
   drill : (given : ReportAndTape) → DrillGives 2 1 given → given.differs ≡ false
@@ -111,8 +111,8 @@ given_by = record {
   not_too_much = λ h. let above : 600000 < 600000 = h.3.1 in omega (arith, above);
   all_long = λ d made all are. (d, tt, made, (omega (arith, all), are));
   searched_first = λ h. (h.0, h.3.0);
-  split = λ d sizes made all best. (refl, (d, tt, made, omega (arith, all), (sizes, best, refl)));
-  split_searched = λ given h. (h.1.0, h.1.3);
+  split = λ d sizes made all best. (refl, (d, tt, made, (omega (arith, all), (sizes, best, refl))));
+  split_searched = λ given h. (h.1.0, h.1.3.0);
   script = λ d made is_short all true_is. (refl, (d, tt, made, (is_short, omega (arith, all), true_is, refl)));
   script_fits = λ given h. (h.1.0, h.1.3.1);
   drill = λ given h. ap (λ (g : ReportAndTape). g.differs) h.1;
@@ -127,6 +127,10 @@ silent_mast = record { told = None; faults = 0; port = Some 7 }
 abbrev silent_ear : EarState
 silent_ear = record { told = None; faults = 0; port = Some 7 }
 
+-- The end was sent after no bucket.
+abbrev end_sent : SentBuckets
+end_sent = record nothing_sent { ended = Some 0 }
+
 pub record OnAir : Type 0 where
   -- all of a whole history may have been sent, and as many datagrams heard as the deck says
   all_sent : (H : List Event) → IsWhole small H → HasSent small 7 silent_mast silent_mast
@@ -135,6 +139,8 @@ pub record OnAir : Type 0 where
   other_port : HasSent small 8 silent_mast silent_mast → ⊥
   other_ear : HasHeardPort small 8 silent_ear silent_ear → ⊥
   untold_sent : HasSent small 7 (record silent_mast { told = Some nothing_sent }) silent_mast → ⊥
+  -- and no call failed if the end was sent
+  end_failed : HasSent small 7 (record silent_mast { told = Some nothing_sent }) (record silent_mast { told = Some end_sent; faults = 1 }) → ⊥
   untold_heard : HasHeardPort small 7 (record silent_ear { told = Some [] }) silent_ear → ⊥
   -- so a cast leaves the mast, and `listen` the ear
   sent : (H : List Event) → IsWhole small H → LeavesMast (Some (AsksCast (codes "d") 7)) shelf (record silent_mast { port = None }) silent_mast
@@ -142,14 +148,19 @@ pub record OnAir : Type 0 where
 
 pub on_air : OnAir
 on_air = record {
-  all_sent = λ H whole. record { sent = inr (H, whole, tt); later = omega arith; port = refl };
+  all_sent = λ H whole. record { sent = inr (H, whole, tt, refl); later = omega arith; port = refl };
   all_heard = record { taken = (1000000, omega arith, tt); later = omega arith; port = refl };
   other_port = λ h. let port : ◌≡◌ {A = Option ℕ} (Some 7) (Some 8) = h.port in let same : ◌≡◌ {A = ℕ} 7 8 = cc in omega (arith, same);
   other_ear = λ h. let port : ◌≡◌ {A = Option ℕ} (Some 7) (Some 8) = h.port in let same : ◌≡◌ {A = ℕ} 7 8 = cc in omega (arith, same);
   untold_sent = λ h. elim h.sent as (λ _. ⊥) [ inl first ↦ (let told : None ≡ Some _ = first.1.sent in cc) | inr all ↦ (let told : None ≡ Some _ = all.2 in cc) ];
+  end_failed = λ h. elim h.sent as (λ _. ⊥) [
+    | inl first ↦ (let told : Some end_sent ≡ Some (first_sent first.0 (aired_bytes small first.1.history)) = first.1.sent in
+        let same : end_sent ≡ first_sent first.0 (aired_bytes small first.1.history) = cc in let e : ◌≡◌ {A = Option ℕ} (Some 0) None = ap (λ (s : SentBuckets). s.ended) same in cc)
+    | inr all ↦ (let calm : 1 ≡ 0 = all.3 in omega (arith, calm))
+  ];
   untold_heard = λ h. let told : None ≡ Some _ = h.taken.2 in cc;
-  sent = λ H whole. inr (small, spells_deck, small_is_deck, record { sent = inr (H, whole, tt); later = omega arith; port = refl });
-  heard = inr (small, spells_deck, small_is_deck, record { taken = (1, omega arith, refl); later = omega arith; port = refl });
+  sent = λ H whole. inr (small, spells_deck, small_made, record { sent = inr (H, whole, tt, refl); later = omega arith; port = refl });
+  heard = inr (small, spells_deck, small_made, record { taken = (1, omega arith, refl); later = omega arith; port = refl });
 }
 
 pub record Words : Type 1 where

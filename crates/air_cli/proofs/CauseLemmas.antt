@@ -5,6 +5,7 @@ use Rattle.item_catalog.specs.Grammar.{Spells}
 use Rattle.air_devices.specs.WhatIsTold.{ToldIs, WhereTold}
 use Rattle.air_devices.specs.Shelves.{ShelfState}
 use Rattle.air_model.specs.Decks.{Deck, IsDeck}
+use Rattle.item_catalog.specs.DeckLimits.{WithinLimits}
 use Rattle.air_report.specs.declared.status.Status.{Status}
 use Rattle.air_report.specs.declared.status.Status.TheVariants as status
 use Rattle.air_cli.specs.NamedFiles.{HasBytes, UnreadCause}
@@ -55,7 +56,7 @@ deck_runs name before now (status.PlanTooLong slots) h = absurd h
 deck_runs name before now s h = h
 
 -- A deck of which a program would be too long can't be run either.
-pub length_runs : (name : List ℕ) (before now : ShelfState) (d : Deck) (s : Status) → SpellsDeck name before d → IsDeck d → LengthCause d s → UnrunnableCause name before now s
+pub length_runs : (name : List ℕ) (before now : ShelfState) (d : Deck) (s : Status) → SpellsDeck name before d → IsDeck d × WithinLimits d → LengthCause d s → UnrunnableCause name before now s
 unfolding UnrunnableCause DeckCause UnreadCause LengthCause
 length_runs name before now d status.NoMemory spells made h = h
 length_runs name before now d (status.PlanTooLong slots) spells made h = (d, spells, made, h)

@@ -18,7 +18,7 @@ use Rattle.air_model.proofs.ScriptLemmas.{script}
 use Rattle.air_report.specs.declared.status.Status.TheVariants as status
 use Rattle.air_sender.proofs.TapeLemmas.{tape_back}
 use Rattle.chunk_program.specs.Plans.{AreShort, IsFirstTooLong}
-use Rattle.item_catalog.specs.DeckLimits.{DiskWithin, ReaderWithin, ReplanWithin, WithinLimits}
+use Rattle.item_catalog.specs.DeckLimits.{DiskWithin, ReaderWithin, ReplanWithin, SettingsWithin, WithinLimits, script_starts}
 use Rattle.item_catalog.specs.Grammar.{Spells}
 use Rattle.item_catalog.proofs.GrammarLemmas.{one_deck}
 use Rattle.live_replay.proofs.AuditExamples.{is_audit, its_bytes, one_finding, small, small_is_deck}
@@ -34,13 +34,13 @@ use Rattle.air_cli.specs.Truths.{AreTrue, IsTrueScript, IsTrueTape}
 use Rattle.air_cli.specs.Tune.{IsTuned, TuneCause, TuneGives, tune_given}
 use Rattle.air_cli.specs.Private.GivenTexts.{audit_given, drill_given, plan_given, script_given}
 use Rattle.air_cli.proofs.InputLemmas.{too_long}
-use Rattle.air_cli.proofs.ToldExamples.{its_deck, script_bytes, shelf, short, spells, spells_deck}
+use Rattle.air_cli.proofs.ToldExamples.{its_deck, script_bytes, shelf, short, small_made, spells, spells_deck}
 use Rattle.air_cli.proofs.TruthLemmas.{true_script, true_tape}
 
 -- ---- the deck that a file spells
 
 has_deck : HasDeck (codes "d") shelf AreShort
-has_deck = (small, spells_deck, small_is_deck, short)
+has_deck = (small, spells_deck, small_made, short)
 
 -- The told file spells no other deck than this one.
 pub the_deck : (d : Deck) → SpellsDeck (codes "d") shelf d → d ≡ small
@@ -48,7 +48,7 @@ the_deck d h = one_deck its_deck d small h.1 spells
 
 -- So the file spells no deck without an item.
 no_deck : HasDeck (codes "d") shelf (λ d. length d.items ≡ 0) → ⊥
-no_deck (d, is, made, none) = omega (arith, none, made.some)
+no_deck (d, is, made, none) = omega (arith, none, made.0.some)
 
 has_bytes : HasBytes (codes "r") shelf (λ bytes. bytes ≡ its_bytes)
 has_bytes = (its_bytes, refl, refl)
@@ -58,7 +58,7 @@ other_bytes : HasBytes (codes "r") shelf (λ bytes. bytes ≡ []) → ⊥
 other_bytes (bytes, known, none) = let same : its_bytes ≡ [] = sym known ∙ none in cc
 
 has_report : HasReport (codes "d") (codes "r") shelf (λ d bytes. bytes ≡ its_bytes)
-has_report = (small, spells_deck, small_is_deck, (its_bytes, refl, (omega arith, refl)))
+has_report = (small, spells_deck, small_made, (its_bytes, refl, (omega arith, refl)))
 
 other_report : HasReport (codes "d") (codes "r") shelf (λ d bytes. bytes ≡ []) → ⊥
 other_report h = let same : its_bytes ≡ [] = sym h.3.1 ∙ h.3.2.1 in cc
@@ -67,18 +67,18 @@ other_report h = let same : its_bytes ≡ [] = sym h.3.1 ∙ h.3.2.1 in cc
 
 pub plan_gives : PlanGives (codes "d") shelf (plan_given small)
 unfolding PlanGives
-plan_gives = (refl, (small, spells_deck, small_is_deck, short, refl))
+plan_gives = (refl, (small, spells_deck, small_made, (short, refl)))
 
 -- A plan has no tape, nothing in it differs, and it is the one of the deck that the file spells.
 not_plan : (PlanGives (codes "d") shelf (record (plan_given small) { tape = 1 ∷ [] }) → ⊥) × (PlanGives (codes "d") shelf (record (plan_given small) { differs = true }) → ⊥)
 unfolding PlanGives
 not_plan = (
-  λ h. let tape : ◌≡◌ {A = List ℕ} (1 ∷ []) [] = ap (λ (g : ReportAndTape). g.tape) h.1.4 in cc,
+  λ h. let tape : ◌≡◌ {A = List ℕ} (1 ∷ []) [] = ap (λ (g : ReportAndTape). g.tape) h.1.3.1 in cc,
   λ h. let differs : true ≡ false = h.0 in cc,
 )
 
 -- If nothing is told, there still is a deck whose first program that is too long has this number of slots.
-program_too_long : (d : Deck) (slots : ℕ) (untold : ShelfState) → untold.told.file (codes "d") ≡ None → IsDeck d → IsFirstTooLong d slots
+program_too_long : (d : Deck) (slots : ℕ) (untold : ShelfState) → untold.told.file (codes "d") ≡ None → IsDeck d × WithinLimits d → IsFirstTooLong d slots
     → UnrunnableCause (codes "d") untold untold (status.PlanTooLong slots)
 unfolding UnrunnableCause
 program_too_long d slots untold none made long =
@@ -123,6 +123,22 @@ wanting = tt
 
 -- ---- `script`
 
+its_settings : SettingsWithin small.settings
+its_settings = record {
+  group = omega arith;
+  cycles = omega arith;
+  seed = omega arith;
+  loss = omega arith;
+  again = omega arith;
+  late = omega arith;
+  monitors = omega arith;
+  some_hears = omega arith;
+  hears = omega arith;
+}
+
+one_start : script_starts small ≡ 1
+one_start = refl
+
 pub within : WithinLimits small
 within = record {
   rates = All-from_recursion (λ i. i.rate ≤ MOST_RATE) small.items (omega arith, (omega arith, tt));
@@ -137,18 +153,15 @@ within = record {
   query = All-from_recursion (All (λ items. length items ≤ MOST_ASKED)) small.queries (All-from_recursion (λ items. length items ≤ MOST_ASKED) ((0 ∷ 1 ∷ []) ∷ []) (omega arith, tt), tt);
   script = omega arith;
   starts = omega arith;
-  settings = record {
-    group = omega arith;
-    cycles = omega arith;
-    seed = omega arith;
-    loss = omega arith;
-    again = omega arith;
-    late = omega arith;
-    monitors = omega arith;
-    some_hears = omega arith;
-    hears = omega arith;
-  };
+  settings = its_settings;
 }
+
+-- Readers hear at least one datagram, so a deck in which they hear none isn't within the limits, if a file is told or not.
+not_within : (SettingsWithin (record small.settings { hears = 0 }) → ⊥) × (WithinLimits (record small { settings = record small.settings { hears = 0 } }) → ⊥)
+not_within = (λ h. let some : 1 ≤ 0 = h.some_hears in omega arith, λ h. let some : 1 ≤ 0 = h.settings.some_hears in omega arith)
+
+kept_untold : (before : ShelfState) → HasDeck (codes "d") before (λ d. d.settings.hears ≡ 0) → ⊥
+kept_untold before (d, is, made, none) = let some = made.1.settings.some_hears in omega (arith, none, some)
 
 is_true_script : IsTrueScript small
 is_true_script = true_script small small_is_deck within short script events bytes_aired heard_was_pushed receiver
@@ -158,7 +171,7 @@ are_true = is_true_script.sessions
 
 pub script_gives : ScriptGives (codes "d") shelf (script_given small)
 unfolding ScriptGives
-script_gives = (refl, (small, spells_deck, small_is_deck, (short, omega (arith, script_bytes), is_true_script, refl)))
+script_gives = (refl, (small, spells_deck, small_made, (short, omega (arith, script_bytes), is_true_script, refl)))
 
 -- A script gives its tape, and nothing in its report differs.
 not_script : (ScriptGives (codes "d") shelf (record (script_given small) { tape = [] }) → ⊥) × (ScriptGives (codes "d") shelf (record (script_given small) { differs = true }) → ⊥)
@@ -175,7 +188,7 @@ unfolding ScriptCause
 not_script_too_long bytes (d, is, made, long) =
     let few = subst (λ d. AreShort d × (bytes ≡ length (script_tape d)) × (1073741824 < bytes)) (the_deck d is) long in omega (arith, few.1, few.2, script_bytes)
 
-script_too_long : (d : Deck) (untold : ShelfState) → untold.told.file (codes "d") ≡ None → IsDeck d → AreShort d → length (script_tape d) ≡ 1073741825
+script_too_long : (d : Deck) (untold : ShelfState) → untold.told.file (codes "d") ≡ None → IsDeck d × WithinLimits d → AreShort d → length (script_tape d) ≡ 1073741825
     → ScriptCause (codes "d") untold untold (status.TooLong 1073741825)
 unfolding ScriptCause
 script_too_long d untold none made can counted =
@@ -200,7 +213,7 @@ is_tuned = record {
 
 pub tune_gives : TuneGives (codes "d") (codes "t") shelf (tune_given small (tape_read (script_tape small)).records)
 unfolding TuneGives
-tune_gives = (refl, (small, spells_deck, small_is_deck, (short, (script_tape small, refl, is_tuned))))
+tune_gives = (refl, (small, spells_deck, small_made, (short, (script_tape small, refl, is_tuned))))
 
 -- What is tuned in to has no tape of its own.
 not_tuned : TuneGives (codes "d") (codes "t") shelf (record { text = []; tape = 1 ∷ []; differs = false }) → ⊥
@@ -243,7 +256,7 @@ drill_input h = h
 
 pub audit_gives : AuditGives (codes "d") (codes "r") shelf (audit_given one_finding)
 unfolding AuditGives
-audit_gives = (one_finding, refl, (small, spells_deck, small_is_deck, (its_bytes, refl, (omega arith, is_audit))))
+audit_gives = (one_finding, refl, (small, spells_deck, small_made, (its_bytes, refl, (omega arith, is_audit))))
 
 not_audit : AuditGives (codes "d") (codes "r") shelf (record (audit_given one_finding) { tape = 1 ∷ [] }) → ⊥
 unfolding AuditGives

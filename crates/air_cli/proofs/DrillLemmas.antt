@@ -17,7 +17,7 @@ drill_made seed size before (Err s) none = tt
 
 pub drill_unmade : (seed size : ℕ) (before : ShelfState) (made : Result ReportAndTape Status) → IfErr made (λ s. s ≡ status.NoMemory) → IfErr made (IsUnmade (drill_meaning seed size) before before)
 drill_unmade seed size before (Ok given) none = tt
-drill_unmade seed size before (Err s) cause = record { cause = cause; kept = λ read. keeps_all before }
+drill_unmade seed size before (Err s) cause = record { cause = λ some. cause; kept = λ read. keeps_all before }
 
 drill_sound : (seed size : ℕ) → IsSound (drill_meaning seed size)
 drill_sound seed size = record {

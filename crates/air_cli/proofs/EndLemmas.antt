@@ -16,14 +16,24 @@ use Rattle.air_cli.proofs.RefusalLemmas.{IsSound, answers_refused, leaves_refuse
 abbrev pub EndsAt : Option (List ℕ) → Result ReportAndTape Status → ShelfState → ShelfState → Status → Type 0
 EndsAt output made mid now s = MatchResult made (λ given. EndsGiven output given mid now s) (λ why. EndsUnmade why mid now s)
 
+-- A command for which nothing was made.
+pub answers_unmade : (command : Meaning) → IsSound command → (before mid now : ShelfState) (why s : Status) → IsUnmade command before mid why → ReadsInputs command before mid → EndsUnmade why mid now s
+    → QuietAnswers command before now s
+answers_unmade command sound before mid now why s unmade reads (inl (none, same, still)) =
+    let h = untouched command before mid reads.printed reads.outputs (inl (unmade.kept (λ e. cc (none, e)))) in
+    subst (λ shelf. QuietAnswers command before shelf s) (sym still) (subst (QuietAnswers command before mid) (sym same) h)
+answers_unmade command sound before mid now why s unmade reads (inr ends) =
+    answers_refused command sound before mid now why s ends.some reads (unmade.cause ends.some) unmade.kept ends.gives ends.rest ends.counts
+
+pub leaves_unmade : (command : Meaning) (before mid now : ShelfState) (why s : Status) → ReadsInputs command before mid → EndsUnmade why mid now s → Leaves command before now
+leaves_unmade command before mid now why s reads (inl (none, same, still)) =
+    subst (Leaves command before) (sym still) (record { files = reads.files; left = reads.left; outputs = λ name other. reads.outputs name; counts = reads.counts })
+leaves_unmade command before mid now why s reads (inr ends) = leaves_refused command before mid now reads ends.rest ends.counts
+
 pub answers_ended : (command : Meaning) → IsSound command → (made : Result ReportAndTape Status) (before mid now : ShelfState) (s : Status) → IfOk made (IsMade command before mid)
     → IfErr made (IsUnmade command before mid) → ReadsInputs command before mid → EndsAt command.output made mid now s → QuietAnswers command before now s
 answers_ended command sound (Ok given) before mid now s made unmade reads ends = answers_made command given before mid now s made reads ends.gives ends.rest
-answers_ended command sound (Err why) before mid now s made unmade reads (inl (none, same, still)) =
-    let h = untouched command before mid reads.printed reads.outputs (inl (unmade.kept (λ e. cc (none, e)))) in
-    subst (λ shelf. QuietAnswers command before shelf s) (sym still) (subst (QuietAnswers command before mid) (sym same) h)
-answers_ended command sound (Err why) before mid now s made unmade reads (inr ends) =
-    answers_refused command sound before mid now why s ends.some reads unmade.cause unmade.kept ends.gives ends.rest ends.counts
+answers_ended command sound (Err why) before mid now s made unmade reads ends = answers_unmade command sound before mid now why s unmade reads ends
 
 pub leaves_ended : (command : Meaning) (made : Result ReportAndTape Status) (before mid now : ShelfState) (s : Status) → ReadsInputs command before mid → EndsAt command.output made mid now s
     → Leaves command before now
@@ -33,6 +43,4 @@ leaves_ended command (Ok given) before mid now s reads ends = record {
   outputs = λ name other. ends.rest.outputs name other ∙ reads.outputs name;
   counts = falls_twice before.faults mid.faults now.faults reads.counts ends.counts;
 }
-leaves_ended command (Err why) before mid now s reads (inl (none, same, still)) =
-    subst (Leaves command before) (sym still) (record { files = reads.files; left = reads.left; outputs = λ name other. reads.outputs name; counts = reads.counts })
-leaves_ended command (Err why) before mid now s reads (inr ends) = leaves_refused command before mid now reads ends.rest ends.counts
+leaves_ended command (Err why) before mid now s reads ends = leaves_unmade command before mid now why s reads ends

@@ -1,6 +1,6 @@
 -- The headline on the told shelf. Its premises can be met together: each statement holds of a call that succeeded there. It doesn't hold of a call
 -- that left something else, and a wrong verdict isn't right.
-use Rattle.std.proofs.Common.{◌≡◌, ◌*◌, ℕ, true, false, List, [], ◌∷◌, Option, Some, None, All, length, refl, ap, sym, ◌∙◌, subst, arith}
+use Rattle.std.proofs.Common.{◌≡◌, ℕ, true, false, List, [], ◌∷◌, Option, Some, None, All, length, refl, ap, sym, ◌∙◌, subst, arith}
 use Rattle.std.specs.Prelude.{codes, if◌then◌else◌, nat_eq}
 use Rattle.std.specs.Cmp.Lexicographic.{pointwise}
 use Rattle.std.proofs.lemmas.Bool.{false≢true}
@@ -214,7 +214,7 @@ not_tuned now h = let whole : ◌≡◌ {A = Option ℕ} (Some 0) None = ap (λ 
 abbrev cast_text : List ℕ
 cast_text = cast_output ten [] []
 
-its_cast : OneHistoryLaw → Headline (Some (AsksCast (codes "d") 7)) fresh_mast (aimed all_of_ten) (fresh_ear []) (fresh_ear []) shelf (holding [] cast_text) status.Ok
+pub its_cast : OneHistoryLaw → Headline (Some (AsksCast (codes "d") 7)) fresh_mast (aimed all_of_ten) (fresh_ear []) (fresh_ear []) shelf (holding [] cast_text) status.Ok
 its_cast one_history = cast_stands (codes "d") 7 fresh_mast (aimed all_of_ten) shelf (holding [] cast_text) (cast_given ten_run) (cast_gives one_history) (record { written = tt; printed = refl })
 
 -- It doesn't hold of another port, nor without the end.

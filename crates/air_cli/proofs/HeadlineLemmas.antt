@@ -69,7 +69,7 @@ first_heard most (Some waiting) heard h = h
 
 pub run_stands : (deck tape : List ℕ) (before now : ShelfState) (given : ReportAndTape) → RunGives deck before given → IsGiven (Some tape) given before now → RunStands deck tape before now
 unfolding RunGives true_sessions
-run_stands deck tape before now given (same, (d, spells, made, can, (run, is))) out =
+run_stands deck tape before now given (same, (d, spells, made, (can, (run, is)))) out =
     let H = run.history in
     let report : Report = record (session_report H (true_sessions d H)) { glances = run.glances; looks = run.looks } in
     let went = subst (λ g. IsGiven (Some tape) g before now) is.given_is out in
@@ -129,7 +129,7 @@ tune_stands deck tape before now given (same, (d, spells, made, (short, (bytes, 
 pub cast_stands : (deck : List ℕ) (port : ℕ) (mast mast_now : MastState) (before now : ShelfState) (given : ReportAndTape) → CastGives deck port mast mast_now before given → IsGiven None given before now
     → CastStands deck port mast mast_now before now
 unfolding CastGives
-cast_stands deck port mast mast_now before now given (same, (d, spells, made, can, (run, is))) out =
+cast_stands deck port mast mast_now before now given (same, (d, spells, made, (can, (run, is)))) out =
     let went = subst (λ g. IsGiven None g before now) is.given_is out in
     record {
       d = d;
@@ -151,7 +151,7 @@ cast_stands deck port mast mast_now before now given (same, (d, spells, made, ca
 pub listen_stands : (deck : List ℕ) (port : ℕ) (ear ear_now : EarState) (before now : ShelfState) (given : ReportAndTape) → ListenGives deck port ear ear_now before given → IsGiven None given before now
     → ListenStands deck port ear ear_now before now
 unfolding ListenGives
-listen_stands deck port ear ear_now before now given (same, (d, spells, made, short, (heard, is))) out =
+listen_stands deck port ear ear_now before now given (same, (d, spells, made, (short, (heard, is)))) out =
     let went = subst (λ g. IsGiven None g before now) is.given_is out in
     record {
       d = d;

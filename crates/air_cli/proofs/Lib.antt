@@ -31,7 +31,7 @@ pub mod WholeRecordLemmas
 pub mod ReadSoFar
 pub mod PieceLemmas
 pub mod ReadingLemmas
-pub mod HearerLemmas
+pub mod TapeHearerLemmas
 pub mod HeardSoFar
 pub mod CountLemmas
 pub mod OutputLemmas
@@ -47,6 +47,13 @@ mod RunExamples
 mod ListenExamples
 mod AnswerExamples
 mod HeadlineExamples
+mod StandExamples
 mod CounterExamples
 mod LimitExamples
 mod CauseExamples
+mod GivenExamples
+mod MeaningExamples
+mod RefusalExamples
+mod StatusExamples
+mod PartExamples
+mod StandPartExamples

@@ -3,12 +3,13 @@ use Rattle.std.proofs.Common.{◌≡◌, ◌≤◌, ℕ, List, [], Some, None, l
 use Rattle.std.specs.Prelude.{codes}
 use Rattle.air_devices.specs.Shelves.{ShelfState}
 use Rattle.air_model.specs.Decks.{Deck, IsDeck}
+use Rattle.item_catalog.specs.DeckLimits.{WithinLimits}
 use Rattle.air_model.specs.Outputs.{script_tape}
 use Rattle.air_model.specs.Tapes.{tape_read}
 use Rattle.air_report.specs.declared.status.Status.TheVariants as status
 use Rattle.deck_runs.specs.RunTapes.{run_tape_len}
 use Rattle.item_catalog.specs.Grammar.{HasFault}
-use Rattle.live_replay.proofs.AuditExamples.{small, small_is_deck}
+use Rattle.live_replay.proofs.AuditExamples.{small}
 use Rattle.chunk_program.specs.Plans.{AreShort}
 use Rattle.air_cli.specs.Audit.{HasReport}
 use Rattle.air_cli.specs.NamedDecks.{IsFaulty}
@@ -17,12 +18,9 @@ use Rattle.air_cli.specs.Run.{CanRun}
 use Rattle.air_cli.specs.Script.{script_meaning}
 use Rattle.air_cli.specs.Truths.{IsTrueTape}
 use Rattle.air_cli.specs.Tune.{IsTuned, TuneCause, tune_given, tune_meaning}
-use Rattle.air_cli.proofs.ToldExamples.{shelf, short}
+use Rattle.air_cli.proofs.ToldExamples.{shelf, short, small_made, untold}
 
--- A shelf that tells no file; and one whose every file has these bytes, and was read to its end.
-abbrev untold : ShelfState
-untold = record shelf { told = record shelf.told { file = λ name. None } }
-
+-- A shelf whose every file has these bytes, and was read to its end.
 abbrev of_bytes : List ℕ → ShelfState
 of_bytes bytes = record shelf { told = record shelf.told { file = λ name. Some bytes; left = λ name. Some [] } }
 
@@ -37,7 +35,7 @@ pub record Limits : Type 0 where
   -- a tape of 1,073,741,824 bytes, of a run, of a script, and of one that is heard
   run : (d : Deck) → AreShort d → run_tape_len d ≡ 1073741824 → CanRun d
   no_run : (d : Deck) → run_tape_len d ≡ 1073741825 → CanRun d → ⊥
-  script : (d : Deck) → IsDeck d → AreShort d → length (script_tape d) ≡ 1073741824 → (script_meaning (codes "d") None).Suits untold
+  script : (d : Deck) → IsDeck d × WithinLimits d → AreShort d → length (script_tape d) ≡ 1073741824 → (script_meaning (codes "d") None).Suits untold
   script_fits : (h : (script_meaning (codes "d") None).Suits untold) → length (script_tape h.0) ≤ 1073741824
   tape : (bytes : List ℕ) → length bytes ≡ 1073741824 → (tape_read bytes).cut ≡ None → IsTrueTape small (tape_read bytes).records → IsTuned small (tune_given small (tape_read bytes).records) bytes
   no_tape : (bytes : List ℕ) (given : ReportAndTape) → length bytes ≡ 1073741825 → IsTuned small given bytes → ⊥
@@ -49,7 +47,7 @@ pub record Limits : Type 0 where
 limits : Limits
 unfolding TuneCause
 limits = record {
-  report = λ bytes all. (small, tt, small_is_deck, (bytes, tt, (omega (arith, all), refl)));
+  report = λ bytes all. (small, tt, small_made, (bytes, tt, (omega (arith, all), refl)));
   no_report = λ bytes more h. let few : length h.3.0 ≤ 134217728 = h.3.2.0 in omega (arith, few, ap length h.3.2.1, more);
   deck = λ bytes all fault. record { read = refl; fault = (omega (arith, all), fault) };
   no_deck = λ bytes more h. let few : length bytes ≤ 67108864 = h.fault.0 in omega (arith, few, more);
@@ -60,8 +58,8 @@ limits = record {
   script_fits = λ h. h.3.1;
   tape = λ bytes all whole true_is. record { fits = omega (arith, all); whole = whole; true_is = true_is; given_is = refl };
   no_tape = λ bytes given more h. let few : length bytes ≤ 1073741824 = h.fits in omega (arith, few, more);
-  tape_suits = λ bytes all whole. ((small, tt, small_is_deck, short), (bytes, tt, (omega (arith, all), whole)));
+  tape_suits = λ bytes all whole. ((small, tt, small_made, short), (bytes, tt, (omega (arith, all), whole)));
   tape_fits = λ h. h.1.2.0;
-  cut = λ bytes all at. ((small, tt, small_is_deck, short), (bytes, tt, (omega (arith, all), at)));
+  cut = λ bytes all at. ((small, tt, small_made, short), (bytes, tt, (omega (arith, all), at)));
   cut_fits = λ h. (h.1.0, h.1.2.0);
 }

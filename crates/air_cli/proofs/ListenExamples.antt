@@ -4,14 +4,14 @@ use Rattle.std.specs.Prelude.{codes}
 use Rattle.std.proofs.lemmas.List.Elements.{All-from_recursion}
 use Rattle.air_devices.specs.Ears.{EarState}
 use Rattle.air_report.specs.declared.status.Status.TheVariants as status
-use Rattle.live_replay.proofs.AuditExamples.{small, small_is_deck}
+use Rattle.live_replay.proofs.AuditExamples.{small}
 use Rattle.air_cli.specs.ReportsAndTapes.{ReportAndTape}
 use Rattle.air_cli.specs.Hearings.{AreFirstHeard, IsHeardOnEar, TakesJust, TakesUpTo, heard_bytes}
 use Rattle.air_cli.specs.Listen.{HasHeardPort, IsBrokenListening, IsListening, ListenCause, ListenGives, listen_meaning}
 use Rattle.air_cli.specs.Tune.{tune_given}
 use Rattle.air_cli.specs.declared.commands.hearings.TheConstants.{MOST_HEARD_BYTES}
 use Rattle.air_cli.proofs.CommandExamples.{is_true_tape}
-use Rattle.air_cli.proofs.ToldExamples.{shelf, short, spells_deck}
+use Rattle.air_cli.proofs.ToldExamples.{shelf, short, small_made, spells_deck}
 
 -- Two datagrams of one byte.
 abbrev pub a : List ℕ
@@ -86,11 +86,11 @@ not_listening = (
 
 pub listen_gives : ListenGives (codes "d") 7 (fresh_ear (a ∷ b ∷ [])) (tuned []) shelf (tune_given small (a ∷ b ∷ []))
 unfolding ListenGives
-listen_gives = (refl, (small, spells_deck, small_is_deck, short, (a ∷ b ∷ [], is_listening)))
+listen_gives = (refl, (small, spells_deck, small_made, (short, (a ∷ b ∷ [], is_listening))))
 
 not_listen_gives : ListenGives (codes "d") 7 (fresh_ear []) (tuned []) shelf (record { text = []; tape = 1 ∷ []; differs = false }) → ⊥
 unfolding ListenGives
-not_listen_gives h = let tape : ◌≡◌ {A = List ℕ} (1 ∷ []) [] = ap (λ (g : ReportAndTape). g.tape) h.1.4.1.given_is in cc
+not_listen_gives h = let tape : ◌≡◌ {A = List ℕ} (1 ∷ []) [] = ap (λ (g : ReportAndTape). g.tape) h.1.3.1.1.given_is in cc
 
 -- The ear failed after the first datagram.
 is_broken : IsBrokenListening small 7 1 (fresh_ear (a ∷ b ∷ [])) (record (tuned (b ∷ [])) { faults = 1 })
@@ -108,7 +108,7 @@ not_has_heard h = let port : ◌≡◌ {A = Option ℕ} None (Some 7) = h.port i
 
 listen_cause : ListenCause (codes "d") 7 (fresh_ear (a ∷ b ∷ [])) (record (tuned (b ∷ [])) { faults = 1 }) shelf shelf (status.AirFault 1)
 unfolding ListenCause
-listen_cause = (small, spells_deck, small_is_deck, short, is_broken)
+listen_cause = (small, spells_deck, small_made, (short, is_broken))
 
 -- Readers of a deck that can't be read never tuned in.
 not_listen_cause : ListenCause (codes "d") 7 (fresh_ear []) (tuned []) shelf shelf status.ReadFault → ⊥

@@ -1,5 +1,5 @@
 -- What the proofs of `listen` need of its definitions.
-use Rattle.std.proofs.Common.{◌≡◌, ◌∙◌, ℕ, List, [], Option, Some, None, refl, ap, ap₂, inl, inr, arith}
+use Rattle.std.proofs.Common.{◌≡◌, ◌≢◌, ◌∙◌, ℕ, List, [], Option, Some, None, refl, ap, ap₂, inl, inr, arith}
 use Rattle.std.specs.Prelude.{◌⊎◌}
 use Rattle.chunk_program.specs.Plans.{AreShort}
 use Rattle.air_cli.specs.Hearings.{AreEarSessions, IsHearAnswer, IsHeardOnEar, TakesJust, TakesUpTo}
@@ -10,6 +10,7 @@ use Rattle.air_devices.specs.Ears.{EarState}
 use Rattle.air_devices.specs.Shelves.{ShelfState}
 use Rattle.air_devices.specs.Unchanged.{KeepsButPrinted}
 use Rattle.air_model.specs.Decks.{Deck, IsDeck}
+use Rattle.item_catalog.specs.DeckLimits.{WithinLimits}
 use Rattle.air_model.specs.Reports.{report_text}
 use Rattle.air_model.specs.declared.reports.CountsLine.{CountsLine}
 use Rattle.air_model.specs.declared.reports.VerdictLine.{VerdictLine}
@@ -37,22 +38,20 @@ use Rattle.air_cli.proofs.RefusalLemmas.{IsSound, unrunnable_still}
 pub unrunnable_listen : (deck : List ℕ) (on : ℕ) (ear : EarState) (before now : ShelfState) (s : Status) → UnrunnableCause deck before now s → ListenCause deck on ear ear before now s
 unfolding ListenCause UnrunnableCause DeckCause UnreadCause
 unrunnable_listen deck on ear before now (status.AirFault at) h = absurd h
-unrunnable_listen deck on ear before now status.NoMemory h = tt
 unrunnable_listen deck on ear before now s h = (h, refl)
 
 -- They don't report either if the ear fails.
-pub refused_listen : (deck : List ℕ) (on : ℕ) (old new : EarState) (before now : ShelfState) (d : Deck) (s : Status) → SpellsDeck deck before d → IsDeck d → AreShort d
-    → IsListenRefusal d on old new s → ListenCause deck on old new before now s
+pub refused_listen : (deck : List ℕ) (on : ℕ) (old new : EarState) (before now : ShelfState) (d : Deck) (s : Status) → SpellsDeck deck before d → IsDeck d × WithinLimits d → AreShort d
+    → IsListenRefusal d on old new s → s ≢ status.NoMemory → ListenCause deck on old new before now s
 unfolding ListenCause UnrunnableCause DeckCause UnreadCause IsListenRefusal
-refused_listen deck on old new before now d (status.AirFault at) spells made short h = (d, spells, made, short, h)
-refused_listen deck on old new before now d status.NoMemory spells made short h = tt
-refused_listen deck on old new before now d s spells made short h = absurd h
+refused_listen deck on old new before now d (status.AirFault at) spells made short h some = (d, spells, made, (short, h))
+refused_listen deck on old new before now d status.NoMemory spells made short h some = absurd (some refl)
+refused_listen deck on old new before now d s spells made short h some = absurd h
 
 listen_still : (deck : List ℕ) (on : ℕ) (old new : EarState) (before mid now : ShelfState) (s : Status) → KeepsButPrinted mid.told now.told → NoCountFalls mid.faults now.faults
     → ListenCause deck on old new before mid s → ListenCause deck on old new before now s
 unfolding ListenCause
 listen_still deck on old new before mid now (status.AirFault at) rest counts h = h
-listen_still deck on old new before mid now status.NoMemory rest counts h = h
 listen_still deck on old new before mid now s rest counts h = (unrunnable_still deck before mid now s rest counts h.0, h.1)
 
 pub listen_sound : (deck : List ℕ) (on : ℕ) (old new : EarState) → IsSound (listen_meaning deck on old new)
@@ -68,8 +67,7 @@ listen_sound deck on old new = record {
 listen_fits : (deck : List ℕ) (on : ℕ) (old new : EarState) (before now : ShelfState) (s : Status) → TellsInputs (listen_meaning deck on old new) before
     → HasDeck deck before AreShort × (Rose old.faults new.faults → ⊥) → NoCountRose before.faults now.faults → ListenCause deck on old new before now s → s ≡ status.NoMemory
 unfolding ListenCause
-listen_fits deck on old new before now (status.AirFault at) told suits calm h = let broken = h.4 in absurd (suits.1 broken.rose)
-listen_fits deck on old new before now status.NoMemory told suits calm h = refl
+listen_fits deck on old new before now (status.AirFault at) told suits calm h = let broken = h.3.1 in absurd (suits.1 broken.rose)
 listen_fits deck on old new before now s told suits calm h = let known = told deck refl in runs_fits deck before now s known.0 known.1 (of_had deck before AreShort suits.0) calm h.0
 
 pub listen_facts : (deck : List ℕ) (on : ℕ) (old new : EarState) → CommandFacts (listen_meaning deck on old new)
@@ -106,7 +104,7 @@ fault_refused d on before now (fault.Ear at) h port = record { rose = h.0; few =
 fault_refused d on before now fault.NoMemory h port = tt
 
 -- What listening leaves of the ear.
-pub leaves_listen : (deck : List ℕ) (on : ℕ) (shelf : ShelfState) (before now : EarState) (d : Deck) → SpellsDeck deck shelf d → IsDeck d
+pub leaves_listen : (deck : List ℕ) (on : ℕ) (shelf : ShelfState) (before now : EarState) (d : Deck) → SpellsDeck deck shelf d → IsDeck d × WithinLimits d
     → (now ≡ before) ⊎ HasHeardPort d on before now → LeavesEar (Some (AsksListen deck on)) shelf before now
 leaves_listen deck on shelf before now d spells made (inl same) = inl same
 leaves_listen deck on shelf before now d spells made (inr heard) = inr (d, spells, made, heard)

@@ -37,7 +37,7 @@ plan_fits deck before now s told suits calm h = let known = told deck refl in ru
 -- If the deck's file is told, all of it holds of the deck that the file spells.
 plan_told : (deck : List ℕ) (before : ShelfState) (given : ReportAndTape) → PlanGives deck before given → OfDeck deck before (λ d. AreShort d × (given ≡ plan_given d))
 unfolding PlanGives
-plan_told deck before given (same, (d, spells, made, short, is)) = of_deck deck before d (λ d. AreShort d × (given ≡ plan_given d)) spells (short, is)
+plan_told deck before given (same, (d, spells, made, (short, is))) = of_deck deck before d (λ d. AreShort d × (given ≡ plan_given d)) spells (short, is)
 
 pub plan_one : (deck : List ℕ) (before other : ShelfState) (a b : ReportAndTape) → TellSameInputs (plan_meaning deck) before other → PlanGives deck before a → PlanGives deck other b → a ≡ b
 plan_one deck before other a b same first second =

@@ -33,7 +33,7 @@ use Rattle.air_model.specs.Rows.{rows_text}
 use Rattle.air_model.specs.Runs.{IsRun, Run}
 use Rattle.air_model.specs.Sessions.{abort, accept_if_whole, copy_of, count_copied, count_dozed, count_foreign, count_late, count_opened, count_refused, decide, drop_copy, end, end_aged, end_query, hear, hear_all, hear_read, hold, is_unusable, judge_read, line_of, next_attempt, next_query, offer, open_bucket, query_of, session, settle, turn, turn_with, wanted, with_line}
 use Rattle.air_report.specs.declared.status.Status.TheVariants as status
-use Rattle.deck_runs.specs.Casts.{IsCastBeginning, all_sent}
+use Rattle.deck_runs.specs.Casts.{IsCastBeginning, all_sent, first_sent}
 use Rattle.air_sender.specs.AiredBytes.{aired_bytes}
 use Rattle.deck_runs.specs.RunTapes.{run_tape_len}
 use Rattle.deck_runs.specs.RunTruths.{IsTrueRun}
@@ -46,7 +46,7 @@ use Rattle.air_cli.specs.GivenRuns.{IsGivenRun}
 use Rattle.air_cli.specs.Run.{RunCause, RunGives, run_meaning}
 use Rattle.air_cli.specs.Private.GivenTexts.{cast_given, run_given}
 use Rattle.air_cli.proofs.CommandExamples.{the_deck, within}
-use Rattle.air_cli.proofs.ToldExamples.{can_run, run_bytes, shelf, short, spells_deck}
+use Rattle.air_cli.proofs.ToldExamples.{can_run, run_bytes, shelf, short, small_made, spells_deck}
 
 -- ---- the run
 
@@ -83,7 +83,7 @@ is_run = record {
 }
 
 -- By the law of one history all is true of it that is true of a run.
-is_true_run : OneHistoryLaw → IsTrueRun small ten_run
+pub is_true_run : OneHistoryLaw → IsTrueRun small ten_run
 is_true_run one_history = true_run one_history small ten_run small_is_deck within short is_run
 
 is_given_run : OneHistoryLaw → IsGivenRun small (run_given small ten_run) ten_run
@@ -91,7 +91,7 @@ is_given_run one_history = record { run_is = is_run; true_is = is_true_run one_h
 
 pub run_gives : OneHistoryLaw → RunGives (codes "d") shelf (run_given small ten_run)
 unfolding RunGives
-run_gives one_history = (refl, (small, spells_deck, small_is_deck, can_run, (ten_run, is_given_run one_history)))
+run_gives one_history = (refl, (small, spells_deck, small_made, (can_run, (ten_run, is_given_run one_history))))
 
 -- Its report is the one that the shelf tells.
 pub its_report : run_output small ten [] [] ≡ its_bytes
@@ -154,11 +154,11 @@ not_cast = (
 
 pub cast_gives : OneHistoryLaw → CastGives (codes "d") 7 fresh_mast (aimed all_of_ten) shelf (cast_given ten_run)
 unfolding CastGives
-cast_gives one_history = (refl, (small, spells_deck, small_is_deck, can_run, (ten_run, is_cast one_history)))
+cast_gives one_history = (refl, (small, spells_deck, small_made, (can_run, (ten_run, is_cast one_history))))
 
 not_cast_gives : CastGives (codes "d") 7 fresh_mast (aimed all_of_ten) shelf (record (cast_given ten_run) { tape = 1 ∷ [] }) → ⊥
 unfolding CastGives
-not_cast_gives h = let tape : ◌≡◌ {A = List ℕ} (1 ∷ []) [] = ap (λ (g : ReportAndTape). g.tape) h.1.4.1.given_is in cc
+not_cast_gives h = let tape : ◌≡◌ {A = List ℕ} (1 ∷ []) [] = ap (λ (g : ReportAndTape). g.tape) h.1.3.1.1.given_is in cc
 
 -- The mast failed before the first bucket.
 is_broken : IsBrokenCast small 7 0 fresh_mast (record (aimed nothing_sent) { faults = 1 })
@@ -173,14 +173,25 @@ not_broken h = rises h.rose
     rises (inr last) = omega (arith, last.0)
 
 has_sent : HasSent small 7 fresh_mast (aimed nothing_sent) × HasSent small 7 fresh_mast (aimed all_of_ten)
-has_sent = (record { sent = inl (0, no_part); later = omega arith; port = refl }, record { sent = inr (ten, is_whole, refl); later = omega arith; port = refl })
+has_sent = (record { sent = inl (0, no_part); later = omega arith; port = refl }, record { sent = inr (ten, is_whole, refl, refl); later = omega arith; port = refl })
 
 not_has_sent : HasSent small 7 fresh_mast fresh_mast → ⊥
 not_has_sent h = let port : ◌≡◌ {A = Option ℕ} None (Some 7) = h.port in cc
 
+-- Once the end was sent, no call failed: a second end mark that fails isn't left so.
+not_after_end : HasSent small 7 fresh_mast (record (aimed all_of_ten) { faults = 1 }) → ⊥
+not_after_end h = elim h.sent as (λ _. ⊥) [
+  | inl first ↦ unended first.0 (aired_bytes small first.1.history) first.1.sent
+  | inr all ↦ (let calm : 1 ≡ 0 = all.3 in omega (arith, calm))
+]
+  where
+    unended : (count : ℕ) (buckets : List (List ℕ)) → ◌≡◌ {A = Option SentBuckets} (Some all_of_ten) (Some (first_sent count buckets)) → ⊥
+    unended count buckets e =
+        let same : all_of_ten ≡ first_sent count buckets = cc in let end : ◌≡◌ {A = Option ℕ} (Some (length (aired_bytes small ten))) None = ap (λ (s : SentBuckets). s.ended) same in cc
+
 cast_cause : CastCause (codes "d") 7 fresh_mast (record (aimed nothing_sent) { faults = 1 }) shelf shelf (status.AirFault 0)
 unfolding CastCause
-cast_cause = (small, spells_deck, small_is_deck, can_run, is_broken)
+cast_cause = (small, spells_deck, small_made, (can_run, is_broken))
 
 -- A cast that is refused for its deck or its length never aimed.
 not_cast_cause : (bytes : ℕ) → CastCause (codes "d") 7 fresh_mast (aimed nothing_sent) shelf shelf (status.TooLong bytes) → ⊥

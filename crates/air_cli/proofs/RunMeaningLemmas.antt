@@ -8,6 +8,7 @@ use Rattle.air_devices.specs.Shelves.{ShelfState}
 use Rattle.air_report.specs.declared.status.Status.{Status}
 use Rattle.air_report.specs.declared.status.Status.TheVariants as status
 use Rattle.air_model.specs.Decks.{Deck, IsDeck}
+use Rattle.item_catalog.specs.DeckLimits.{WithinLimits}
 use Rattle.chunk_program.specs.Plans.{AreShort}
 use Rattle.air_cli.specs.NamedDecks.{DeckCause, SpellsDeck}
 use Rattle.air_cli.specs.NamedFiles.{UnreadCause}
@@ -30,7 +31,7 @@ unrunnable_run name before now (status.TooLong bytes) h = absurd h
 unrunnable_run name before now s h = h
 
 -- A deck whose tape would be too long has no run either.
-pub long_run_cause : (name : List ℕ) (before now : ShelfState) (d : Deck) (s : Status) → SpellsDeck name before d → IsDeck d → AreShort d → IsRunRefusal d s → RunCause name before now s
+pub long_run_cause : (name : List ℕ) (before now : ShelfState) (d : Deck) (s : Status) → SpellsDeck name before d → IsDeck d × WithinLimits d → AreShort d → IsRunRefusal d s → RunCause name before now s
 unfolding RunCause UnrunnableCause DeckCause UnreadCause IsRunRefusal
 long_run_cause name before now d (status.TooLong bytes) spells made short h = (d, spells, made, (short, h.counted, h.above))
 long_run_cause name before now d status.NoMemory spells made short h = tt
@@ -78,7 +79,7 @@ run_fits deck tape before now s told suits calm h =
 pub told_run : (deck : List ℕ) (before : ShelfState) (given : ReportAndTape) → RunGives deck before given
     → (given.differs ≡ false) × OfDeck deck before (λ d. AreShort d × (run_tape_len d ≤ MOST_TAPE_BYTES) × ((run : Run) × IsGivenRun d given run))
 unfolding RunGives
-told_run deck before given (same, (d, spells, made, can, is)) =
+told_run deck before given (same, (d, spells, made, (can, is))) =
     (same, of_deck deck before d (λ d. AreShort d × (run_tape_len d ≤ MOST_TAPE_BYTES) × ((run : Run) × IsGivenRun d given run)) spells (can.0, can.1, is))
 
 pub run_facts : (deck tape : List ℕ) → CommandFacts (run_meaning deck tape)

@@ -7,13 +7,12 @@ use Rattle.air_devices.specs.Contents.{nothing_told}
 use Rattle.air_devices.specs.Counts.{one_count}
 use Rattle.air_devices.specs.Shelves.{ShelfState}
 use Rattle.air_index.specs.Indexes.{Index, index_at, index_bytes, index_entries}
-use Rattle.air_index.specs.Seeks.{sought, sought_first}
+use Rattle.air_index.specs.Seeks.{sought_first}
 use Rattle.air_index.specs.declared.sought.Sought.TheVariants.{Found, Lost}
 use Rattle.air_model.specs.Rows.{rows_text}
 use Rattle.air_model.specs.Tapes.{ends_inside, read_from, tape_read}
 use Rattle.air_report.specs.declared.status.Status.TheVariants as status
 use Rattle.air_cli.specs.HeardTapes.{UnheardCause}
-use Rattle.air_cli.specs.NamedFiles.{UnreadCause}
 use Rattle.air_cli.specs.ReportsAndTapes.{ReportAndTape}
 use Rattle.air_cli.specs.Seek.{IsSought, SeekGives, seek_given, seek_meaning, sought_line}
 

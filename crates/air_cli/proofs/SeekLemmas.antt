@@ -1,5 +1,5 @@
 -- What the proofs of `seek` need of its definitions.
-use Rattle.std.proofs.Common.{◌≡◌, ℕ, ◌≤◌, List, [], length, None, Some, refl, sym, ap, ◌∙◌}
+use Rattle.std.proofs.Common.{◌≡◌, ℕ, ◌≤◌, List, length, None, Some, refl, sym, ap, ◌∙◌}
 use Rattle.air_base.specs.declared.limits.TheConstants.{MOST_TAPE_BYTES}
 use Rattle.air_devices.specs.Counts.{NoCountFalls}
 use Rattle.air_devices.specs.Unchanged.{KeepsButPrinted}
@@ -32,11 +32,6 @@ line_of_tape tape i p before answer text (bytes, told, (fits, whole, is)) line =
     (refl, (bytes, told, record { fits = fits; whole = whole; given_is = ap only_text (line ∙ ap (sought_line i) is) }))
 
 -- ---- why it is refused
-
--- Out of memory needs no cause.
-pub wanting_seek : (tape : List ℕ) (before now : ShelfState) → UnheardCause tape MOST_TAPE_BYTES before now status.NoMemory
-unfolding UnheardCause UnreadCause
-wanting_seek tape before now = tt
 
 seek_still : (tape : List ℕ) (before mid now : ShelfState) (s : Status) → KeepsButPrinted mid.told now.told → NoCountFalls mid.faults now.faults
     → UnheardCause tape MOST_TAPE_BYTES before mid s → UnheardCause tape MOST_TAPE_BYTES before now s

@@ -13,7 +13,7 @@ use Rattle.air_cli.specs.ReportsAndTapes.{ReportAndTape}
 use Rattle.air_cli.specs.Split.{CanBeSplit, SplitCause, SplitGives, UnsplitCause, split_meaning}
 use Rattle.air_cli.specs.Private.GivenTexts.{split_given}
 use Rattle.air_cli.proofs.CommandExamples.{the_deck}
-use Rattle.air_cli.proofs.ToldExamples.{shelf, spells_deck}
+use Rattle.air_cli.proofs.ToldExamples.{shelf, small_made, spells_deck}
 
 -- ---- the one split of the deck
 
@@ -45,16 +45,16 @@ pub can_be_split : CanBeSplit small
 can_be_split = record { few = omega arith; short = (2 ∷ [], short) }
 
 split_suits : (split_meaning (codes "d")).Suits shelf
-split_suits = (small, spells_deck, small_is_deck, can_be_split)
+split_suits = (small, spells_deck, small_made, can_be_split)
 
 split_gives : SplitGives (codes "d") shelf (split_given small (2 ∷ []))
 unfolding SplitGives
-split_gives = (refl, (small, spells_deck, small_is_deck, omega arith, (2 ∷ [], best, refl)))
+split_gives = (refl, (small, spells_deck, small_made, (omega arith, (2 ∷ [], best, refl))))
 
 -- A split has no tape, and nothing in it differs.
 no_tape : SplitGives (codes "d") shelf (record (split_given small (2 ∷ [])) { tape = 1 ∷ [] }) → ⊥
 unfolding SplitGives
-no_tape (same, (d, is, made, few, (sizes, best, gave))) = let tape : ◌≡◌ {A = List ℕ} (1 ∷ []) [] = ap (λ (g : ReportAndTape). g.tape) gave in cc
+no_tape (same, (d, is, made, (few, (sizes, best, gave)))) = let tape : ◌≡◌ {A = List ℕ} (1 ∷ []) [] = ap (λ (g : ReportAndTape). g.tape) gave in cc
 
 not_different : SplitGives (codes "d") shelf (record (split_given small (2 ∷ [])) { differs = true }) → ⊥
 unfolding SplitGives

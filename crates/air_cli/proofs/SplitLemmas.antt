@@ -8,6 +8,7 @@ use Rattle.air_devices.specs.Counts.{NoCountFalls}
 use Rattle.air_devices.specs.Unchanged.{KeepsButPrinted}
 use Rattle.air_devices.specs.Shelves.{ShelfState}
 use Rattle.air_model.specs.Decks.{Deck, IsDeck}
+use Rattle.item_catalog.specs.DeckLimits.{WithinLimits}
 use Rattle.air_model.specs.Rows.{row_writer, rows_text}
 use Rattle.air_report.specs.declared.status.Status.{Status}
 use Rattle.air_report.specs.declared.status.Status.TheVariants as status
@@ -59,16 +60,12 @@ deck_split name before now (status.PlanTooLong slots) h = absurd h
 deck_split name before now s h = h
 
 -- There is none either if no best split of the deck is given.
-pub unsplit_split : (name : List ℕ) (before now : ShelfState) (d : Deck) (s : Status) → SpellsDeck name before d → IsDeck d → UnsplitCause d s → SplitCause name before now s
+pub unsplit_split : (name : List ℕ) (before now : ShelfState) (d : Deck) (s : Status) → SpellsDeck name before d → IsDeck d × WithinLimits d → UnsplitCause d s → SplitCause name before now s
 unfolding SplitCause DeckCause UnreadCause UnsplitCause
 unsplit_split name before now d status.NoMemory spells made h = h
 unsplit_split name before now d (status.TooMuch product) spells made h = (d, spells, made, h)
 unsplit_split name before now d (status.PlanTooLong slots) spells made h = (d, spells, made, h)
 unsplit_split name before now d s spells made h = absurd h
-
-pub wanting_split : (name : List ℕ) (before now : ShelfState) → SplitCause name before now status.NoMemory
-unfolding SplitCause DeckCause UnreadCause
-wanting_split name before now = tt
 
 split_still : (name : List ℕ) (before mid now : ShelfState) (s : Status) → KeepsButPrinted mid.told now.told → NoCountFalls mid.faults now.faults → SplitCause name before mid s → SplitCause name before now s
 unfolding SplitCause
@@ -120,7 +117,7 @@ GivesBest given d = (sizes : List ℕ) × IsBest d sizes × (given ≡ split_giv
 -- If the deck's file is told, it is that of the deck that the file spells.
 split_told : (deck : List ℕ) (before : ShelfState) (given : ReportAndTape) → SplitGives deck before given → OfDeck deck before (GivesBest given)
 unfolding SplitGives
-split_told deck before given (same, (d, spells, made, few, gave)) = of_deck deck before d (GivesBest given) spells gave
+split_told deck before given (same, (d, spells, made, (few, gave))) = of_deck deck before d (GivesBest given) spells gave
 
 gave_one : (d : Deck) (a b : ReportAndTape) → GivesBest a d → GivesBest b d → a ≡ b
 gave_one d a b (sizes, best, is) (others, first, so) = is ∙ ap (split_given d) (one_best d sizes others best first) ∙ sym so

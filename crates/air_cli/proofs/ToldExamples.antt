@@ -14,7 +14,7 @@ use Rattle.air_history.specs.Histories.{is_start, starts}
 use Rattle.air_history.specs.UpdateRules.{has_repeat}
 use Rattle.air_model.specs.Aired.{body_of, bucket_of, buckets_of}
 use Rattle.air_model.specs.Buckets.{capped_body, capped_entries, count_of, entries_of, entry_bytes, item_of, kind_of, spelling, value_of}
-use Rattle.air_model.specs.Decks.{Deck, event_of, script_history}
+use Rattle.air_model.specs.Decks.{Deck, IsDeck, event_of, script_history}
 use Rattle.air_model.specs.Disks.{cut, order, order_with}
 use Rattle.air_model.specs.Outputs.{script_tape}
 use Rattle.air_model.specs.Programs.{chunk, chunk_len, least_common_multiple, minor_cycle, num_chunks, num_minors, program}
@@ -22,12 +22,14 @@ use Rattle.air_model.specs.Tapes.{record_bytes, tape_of, tape_read}
 use Rattle.air_sender.proofs.TapeLemmas.{tape_back}
 use Rattle.deck_runs.specs.RunTapes.{run_tape_len}
 use Rattle.deck_runs.proofs.HeardRunLemmas.{run_size}
+use Rattle.item_catalog.specs.DeckLimits.{WithinLimits}
 use Rattle.item_catalog.specs.Fields.{freq_of, spelled_event as part_of}
 use Rattle.item_catalog.specs.Faults.{kinds_at, some_below}
 use Rattle.item_catalog.specs.Grammar.{RecordsSpell, Spells}
 use Rattle.item_catalog.proofs.GrammarLemmas.{one_deck}
+use Rattle.item_catalog.proofs.KeptRows.{spelled_made}
 use Rattle.live_replay.specs.AuditAnswers.{CanBeAudited}
-use Rattle.live_replay.proofs.AuditExamples.{can_be_audited, its_bytes, small, small_is_deck}
+use Rattle.live_replay.proofs.AuditExamples.{can_be_audited, its_bytes, small}
 use Rattle.chunk_program.specs.Plans.{AreShort}
 use Rattle.air_cli.specs.Audit.{HasReport, audit_meaning}
 use Rattle.air_cli.specs.NamedDecks.{HasDeck, SpellsDeck}
@@ -83,6 +85,9 @@ pub run_bytes : run_tape_len small ≡ 720
 unfolding order order_with cut program least_common_multiple num_minors num_chunks chunk_len chunk minor_cycle
 run_bytes = run_size small refl
 
+pub small_made : IsDeck small × WithinLimits small
+small_made = spelled_made rows small rows_spell
+
 pub short : AreShort small
 short = short_programs small refl (omega (arith, two_slots))
 
@@ -101,6 +106,10 @@ files name =
 abbrev pub shelf : ShelfState
 shelf = record { told = record { file = files; left = files; output = λ name. Some []; printed = Some [] }; faults = one_count 0 }
 
+-- The same, with no file told.
+abbrev pub untold : ShelfState
+untold = record shelf { told = record shelf.told { file = λ name. None } }
+
 pub spells_deck : SpellsDeck (codes "d") shelf small
 spells_deck = (omega arith, spells)
 
@@ -109,7 +118,7 @@ no_other_deck : SpellsDeck (codes "d") shelf (record small { items = [] }) → �
 no_other_deck h = let items : 0 ≡ 2 = ap (λ (d : Deck). length d.items) (one_deck its_deck (record small { items = [] }) small h.1 spells) in omega (arith, items)
 
 has_deck : HasDeck (codes "d") shelf AreShort
-has_deck = (small, spells_deck, small_is_deck, short)
+has_deck = (small, spells_deck, small_made, short)
 
 -- There is no deck with an impossible property.
 not_has_deck : HasDeck (codes "d") shelf (λ d. ⊥) → ⊥
@@ -142,10 +151,10 @@ pub plan_suits : (plan_meaning (codes "d")).Suits shelf
 plan_suits = has_deck
 
 run_suits : (run_meaning (codes "d") (codes "o")).Suits shelf
-run_suits = (small, spells_deck, small_is_deck, can_run)
+run_suits = (small, spells_deck, small_made, can_run)
 
 script_suits : (script_meaning (codes "d") None).Suits shelf
-script_suits = (small, spells_deck, small_is_deck, (short, omega (arith, script_bytes)))
+script_suits = (small, spells_deck, small_made, (short, omega (arith, script_bytes)))
 
 whole_tape : (tape_read (script_tape small)).cut ≡ None
 whole_tape = ap (λ read. read.cut) (tape_back small (script_history small) (script_tape small) refl (omega (arith, script_bytes)))
@@ -154,7 +163,7 @@ tune_suits : (tune_meaning (codes "d") (codes "t")).Suits shelf
 tune_suits = (has_deck, (script_tape small, refl, (omega (arith, script_bytes), whole_tape)))
 
 has_report : HasReport (codes "d") (codes "r") shelf CanBeAudited
-has_report = (small, spells_deck, small_is_deck, (its_bytes, refl, (omega arith, can_be_audited)))
+has_report = (small, spells_deck, small_made, (its_bytes, refl, (omega arith, can_be_audited)))
 
 not_has_report : HasReport (codes "d") (codes "r") shelf (λ d bytes. ⊥) → ⊥
 not_has_report h = h.3.2.1

@@ -38,6 +38,7 @@ pub record Words : Type 0 where
   no_words : asked_of [] ≡ None
   one_word : asked_of (codes "plan" ∷ []) ≡ None
   two_words : asked_of (codes "plan" ∷ codes "d" ∷ []) ≡ Some (AsksPlan (codes "d"))
+  three_words : asked_of (codes "tune" ∷ codes "d" ∷ codes "t" ∷ []) ≡ Some (AsksTune (codes "d") (codes "t"))
   empty_name : asked_of (codes "plan" ∷ [] ∷ []) ≡ None
   empty_tape : asked_of (codes "tune" ∷ codes "d" ∷ [] ∷ []) ≡ None
   four_words : asked_of (codes "tune" ∷ codes "d" ∷ codes "t" ∷ codes "u" ∷ []) ≡ None
@@ -99,6 +100,7 @@ words = record {
   no_words = refl;
   one_word = refl;
   two_words = refl;
+  three_words = refl;
   empty_name = refl;
   empty_tape = refl;
   four_words = refl;

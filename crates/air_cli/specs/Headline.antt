@@ -29,6 +29,7 @@ use Rattle.air_report.specs.ReadReports.{IsReportOf}
 use Rattle.air_report.specs.declared.reading.ReadReport.{ReadReport}
 use Rattle.air_report.specs.declared.status.Status.{Status}
 use Rattle.air_report.specs.declared.status.Status.TheVariants as status
+use Rattle.item_catalog.specs.DeckLimits.{WithinLimits}
 use Rattle.deck_runs.specs.Casts.{all_sent}
 use Rattle.air_sender.specs.AiredBytes.{aired_bytes}
 use Rattle.deck_runs.specs.RunTruths.{TellsHistory}
@@ -95,7 +96,7 @@ pub record RunStands (deck tape : List ℕ) (before now : ShelfState) : Type 0 w
   pub d : Deck
   pub report : Report
   pub spelled : SpellsDeck deck before d
-  pub made : IsDeck d
+  pub made : IsDeck d × WithinLimits d
   pub whole : IsWhole d report.history
   pub bases : All BasesRead report.history
   pub aired : AirsItems d report.history (buckets_of (values_in d) (air_of d) report.history)
@@ -113,7 +114,7 @@ pub record ScriptStands (deck : List ℕ) (tape : Option (List ℕ)) (before now
   pub d : Deck
   pub report : Report
   pub spelled : SpellsDeck deck before d
-  pub made : IsDeck d
+  pub made : IsDeck d × WithinLimits d
   pub history : report.history ≡ script_history d
   pub legal : IsLegal d report.history
   pub bases : All BasesRead report.history
@@ -128,7 +129,7 @@ pub record TuneStands (deck tape : List ℕ) (before now : ShelfState) : Type 0 
   pub records : List (List ℕ)
   pub report : Report
   pub spelled : SpellsDeck deck before d
-  pub made : IsDeck d
+  pub made : IsDeck d × WithinLimits d
   pub on_tape : WhereTold (before.told.file tape) (λ bytes. tape_read bytes ≡ record { records = records; cut = None })
   pub heard : IsHeardReport d records report
   pub printed : NowPrints (report_text report) before now
@@ -138,7 +139,7 @@ pub record CastStands (deck : List ℕ) (port : ℕ) (mast mast_now : MastState)
   pub d : Deck
   pub report : Report
   pub spelled : SpellsDeck deck before d
-  pub made : IsDeck d
+  pub made : IsDeck d × WithinLimits d
   pub whole : IsWhole d report.history
   pub bases : All BasesRead report.history
   pub aired : AirsItems d report.history (buckets_of (values_in d) (air_of d) report.history)
@@ -157,7 +158,7 @@ pub record ListenStands (deck : List ℕ) (port : ℕ) (ear ear_now : EarState) 
   pub datagrams : List (List ℕ)
   pub report : Report
   pub spelled : SpellsDeck deck before d
-  pub made : IsDeck d
+  pub made : IsDeck d × WithinLimits d
   pub on_port : WhereTold ear.told (λ waiting. datagrams ≡ map heard_bytes (take d.settings.hears waiting))
   pub tuned : ear_now.port ≡ Some port
   pub heard : IsHeardReport d datagrams report
@@ -169,7 +170,7 @@ pub record AuditStands (deck report : List ℕ) (before now : ShelfState) (s : S
   pub d : Deck
   pub read : ReadReport
   pub spelled : SpellsDeck deck before d
-  pub made : IsDeck d
+  pub made : IsDeck d × WithinLimits d
   pub is : WhereTold (before.told.file report) (λ bytes. IsReportOf d bytes read)
   pub legal : IsLegal d read.report.history
   pub printed : NowPrints (findings_text (findings d read)) before now

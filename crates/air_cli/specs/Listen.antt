@@ -1,14 +1,14 @@
 -- The command `listen DECK PORT`. Its meaning is also about the ear, before and after the call.
-use Rattle.std.specs.Prelude.{◌≡◌, ◌<◌, ◌≤◌, ℕ, false, List, Some, ⊤}
+use Rattle.std.specs.Prelude.{◌≡◌, ◌<◌, ◌≤◌, ℕ, false, List, Some}
 use Rattle.chunk_program.specs.Plans.{AreShort}
 use Rattle.air_cli.specs.Hearings.{IsHeardOnEar, TakesJust, TakesUpTo}
 use Rattle.air_devices.specs.Counts.{Rose}
 use Rattle.air_devices.specs.Ears.{EarState}
 use Rattle.air_devices.specs.Shelves.{ShelfState}
-use Rattle.air_model.specs.Decks.{Deck, IsDeck}
+use Rattle.air_model.specs.Decks.{Deck}
 use Rattle.air_report.specs.declared.status.Status.{Status}
 use Rattle.air_report.specs.declared.status.Status.TheVariants as status
-use Rattle.air_cli.specs.NamedDecks.{HasDeck, SpellsDeck}
+use Rattle.air_cli.specs.NamedDecks.{HasDeck}
 use Rattle.air_cli.specs.RunnableDecks.{UnrunnableCause}
 use Rattle.air_cli.specs.ReportsAndTapes.{ReportAndTape}
 use Rattle.air_cli.specs.Meanings.{Meaning, no_command}
@@ -40,16 +40,14 @@ pub record HasHeardPort (d : Deck) (on : ℕ) (before now : EarState) : Type 0 w
 -- Why it is refused. The ear failed, and some well-made deck can be run, that of the named file if it is told; or the deck can't be run, and the ear
 -- is as it was.
 unfoldable pub ListenCause : List ℕ → ℕ → EarState → EarState → ShelfState → ShelfState → Status → Type 0
-ListenCause deck on old new before now (status.AirFault at) =
-    (d : Deck) × SpellsDeck deck before d × IsDeck d × AreShort d × IsBrokenListening d on at old new
-ListenCause deck on old new before now status.NoMemory = ⊤
+ListenCause deck on old new before now (status.AirFault at) = HasDeck deck before (λ d. AreShort d × IsBrokenListening d on at old new)
 ListenCause deck on old new before now s = UnrunnableCause deck before now s × (new ≡ old)
 
 -- What it gives, and what it heard: the report over what was heard by the readers of some well-made deck that can be run, that of the named file if
 -- it is told. Nothing in it differs.
 unfoldable pub ListenGives : List ℕ → ℕ → EarState → EarState → ShelfState → ReportAndTape → Type 0
 ListenGives deck on old new before given =
-    (given.differs ≡ false) × ((d : Deck) × SpellsDeck deck before d × IsDeck d × AreShort d × ((heard : List (List ℕ)) × IsListening d on old new given heard))
+    (given.differs ≡ false) × HasDeck deck before (λ d. AreShort d × ((heard : List (List ℕ)) × IsListening d on old new given heard))
 
 -- It reads its deck, which must be one that can be run, and writes no output. It succeeds if no call of the ear failed.
 abbrev pub listen_meaning : List ℕ → ℕ → EarState → EarState → Meaning

@@ -5,6 +5,7 @@ use Rattle.air_base.specs.declared.limits.TheConstants.{MOST_DECK_BYTES}
 use Rattle.air_devices.specs.WhatIsTold.{WhereTold}
 use Rattle.air_devices.specs.Shelves.{ShelfState}
 use Rattle.air_model.specs.Decks.{Deck, IsDeck}
+use Rattle.item_catalog.specs.DeckLimits.{WithinLimits}
 use Rattle.item_catalog.specs.Grammar.{HasFault, Spells}
 use Rattle.air_report.specs.declared.status.Status.{Status}
 use Rattle.air_report.specs.declared.status.Status.TheVariants as status
@@ -14,9 +15,9 @@ use Rattle.air_cli.specs.NamedFiles.{UnreadCause}
 abbrev pub SpellsDeck : List ℕ → ShelfState → Deck → Type 0
 SpellsDeck name before d = WhereTold (before.told.file name) (λ bytes. (length bytes ≤ MOST_DECK_BYTES) × Spells bytes d)
 
--- Some well-made deck has this property. If the named file is told, it spells that deck.
+-- Some well-made deck, which keeps the limits of the grammar, has this property. If the named file is told, it spells that deck.
 abbrev pub HasDeck : List ℕ → ShelfState → (Deck → Type 0) → Type 0
-HasDeck name before P = (d : Deck) × SpellsDeck name before d × IsDeck d × P d
+HasDeck name before P = (d : Deck) × SpellsDeck name before d × (IsDeck d × WithinLimits d) × P d
 
 -- The named file was read to its end, and its bytes don't spell a deck but have this fault.
 pub record IsFaulty (name : List ℕ) (row kind : ℕ) (before now : ShelfState) : Type 0 where

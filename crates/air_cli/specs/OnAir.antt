@@ -3,8 +3,7 @@ use Rattle.std.specs.Prelude.{◌≡◌, ◌⊎◌, Option, Some}
 use Rattle.air_devices.specs.Ears.{EarState}
 use Rattle.air_devices.specs.Masts.{MastState}
 use Rattle.air_devices.specs.Shelves.{ShelfState}
-use Rattle.air_model.specs.Decks.{Deck, IsDeck}
-use Rattle.air_cli.specs.NamedDecks.{SpellsDeck}
+use Rattle.air_cli.specs.NamedDecks.{HasDeck}
 use Rattle.air_cli.specs.Cast.{HasSent, cast_meaning}
 use Rattle.air_cli.specs.Commands.{quiet_meaning}
 use Rattle.air_cli.specs.Listen.{HasHeardPort, listen_meaning}
@@ -21,13 +20,13 @@ words_meaning (Some (AsksListen deck port)) mast mast_now ear ear_now = listen_m
 words_meaning other mast mast_now ear ear_now = quiet_meaning other
 
 -- Regardless of the status, the mast is as it was, with one exception: `cast` may have sent to its port the first buckets of a whole history of a
--- well-made deck, and after all of them the end. If the named file is told, it spells that deck.
+-- well-made deck, and after all of them, if no failure was counted, the end. If the named file is told, it spells that deck.
 abbrev pub LeavesMast : Option Request → ShelfState → MastState → MastState → Type 0
-LeavesMast (Some (AsksCast deck port)) shelf before now = (now ≡ before) ⊎ ((d : Deck) × SpellsDeck deck shelf d × IsDeck d × HasSent d port before now)
+LeavesMast (Some (AsksCast deck port)) shelf before now = (now ≡ before) ⊎ HasDeck deck shelf (λ d. HasSent d port before now)
 LeavesMast other shelf before now = now ≡ before
 
 -- Regardless of the status, the ear is as it was, with one exception: `listen` may have heard the first datagrams on its port, at most as many as a
 -- well-made deck says. If the named file is told, it spells that deck.
 abbrev pub LeavesEar : Option Request → ShelfState → EarState → EarState → Type 0
-LeavesEar (Some (AsksListen deck port)) shelf before now = (now ≡ before) ⊎ ((d : Deck) × SpellsDeck deck shelf d × IsDeck d × HasHeardPort d port before now)
+LeavesEar (Some (AsksListen deck port)) shelf before now = (now ≡ before) ⊎ HasDeck deck shelf (λ d. HasHeardPort d port before now)
 LeavesEar other shelf before now = now ≡ before

@@ -1,10 +1,9 @@
 -- The command `plan DECK`.
 use Rattle.std.specs.Prelude.{◌≡◌, ℕ, false, List, []}
 use Rattle.air_devices.specs.Shelves.{ShelfState}
-use Rattle.air_model.specs.Decks.{Deck, IsDeck}
 use Rattle.air_model.specs.Outputs.{plan_output}
 use Rattle.chunk_program.specs.Plans.{AreShort}
-use Rattle.air_cli.specs.NamedDecks.{HasDeck, SpellsDeck}
+use Rattle.air_cli.specs.NamedDecks.{HasDeck}
 use Rattle.air_cli.specs.RunnableDecks.{UnrunnableCause}
 use Rattle.air_cli.specs.Meanings.{Meaning, no_command}
 use Rattle.air_cli.specs.ReportsAndTapes.{ReportAndTape}
@@ -13,7 +12,7 @@ use Rattle.air_cli.specs.ReportsAndTapes.{ReportAndTape}
 -- differs.
 unfoldable pub PlanGives : List ℕ → ShelfState → ReportAndTape → Type 0
 PlanGives deck before given =
-    (given.differs ≡ false) × ((d : Deck) × SpellsDeck deck before d × IsDeck d × AreShort d × (given ≡ record { text = plan_output d; tape = []; differs = false }))
+    (given.differs ≡ false) × HasDeck deck before (λ d. AreShort d × (given ≡ record { text = plan_output d; tape = []; differs = false }))
 
 -- It reads its deck, which must be one that can be run, and writes no output.
 abbrev pub plan_meaning : List ℕ → Meaning

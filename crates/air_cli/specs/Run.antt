@@ -2,12 +2,12 @@
 use Rattle.std.specs.Prelude.{◌≡◌, ◌≤◌, ◌<◌, ℕ, false, List, Some}
 use Rattle.air_base.specs.declared.limits.TheConstants.{MOST_TAPE_BYTES}
 use Rattle.air_devices.specs.Shelves.{ShelfState}
-use Rattle.air_model.specs.Decks.{Deck, IsDeck}
+use Rattle.air_model.specs.Decks.{Deck}
 use Rattle.air_report.specs.declared.status.Status.{Status}
 use Rattle.air_report.specs.declared.status.Status.TheVariants as status
 use Rattle.chunk_program.specs.Plans.{AreShort}
 use Rattle.air_cli.specs.RunnableDecks.{UnrunnableCause}
-use Rattle.air_cli.specs.NamedDecks.{HasDeck, SpellsDeck}
+use Rattle.air_cli.specs.NamedDecks.{HasDeck}
 use Rattle.air_cli.specs.ReportsAndTapes.{ReportAndTape}
 use Rattle.air_model.specs.Runs.{Run}
 use Rattle.air_cli.specs.GivenRuns.{IsGivenRun}
@@ -27,7 +27,7 @@ RunCause deck before now s = UnrunnableCause deck before now s
 -- run is true of it. Nothing in it differs.
 unfoldable pub RunGives : List ℕ → ShelfState → ReportAndTape → Type 0
 RunGives deck before given =
-    (given.differs ≡ false) × ((d : Deck) × SpellsDeck deck before d × IsDeck d × CanRun d × ((run : Run) × IsGivenRun d given run))
+    (given.differs ≡ false) × HasDeck deck before (λ d. CanRun d × ((run : Run) × IsGivenRun d given run))
 
 -- It reads its deck, which must be one that can be run, and writes the tape.
 abbrev pub run_meaning : List ℕ → List ℕ → Meaning

@@ -1,13 +1,13 @@
 -- The command `split DECK`.
 use Rattle.std.specs.Prelude.{◌≡◌, ◌≤◌, ◌<◌, ℕ, false, List, [], ⊤}
 use Rattle.air_devices.specs.Shelves.{ShelfState}
-use Rattle.air_model.specs.Decks.{Deck, IsDeck}
+use Rattle.air_model.specs.Decks.{Deck}
 use Rattle.air_report.specs.declared.status.Status.{Status}
 use Rattle.air_report.specs.declared.status.Status.TheVariants as status
 use Rattle.disk_split.specs.SplitAnswers.{AreAllTooLong, search_size}
 use Rattle.disk_split.specs.Splits.{IsBest, IsShortSplit, split_text}
 use Rattle.disk_split.specs.declared.splits.TheConstants.{MOST_SPLIT}
-use Rattle.air_cli.specs.NamedDecks.{DeckCause, HasDeck, SpellsDeck}
+use Rattle.air_cli.specs.NamedDecks.{DeckCause, HasDeck}
 use Rattle.air_cli.specs.Meanings.{Meaning, no_command}
 use Rattle.air_cli.specs.ReportsAndTapes.{ReportAndTape}
 
@@ -35,7 +35,7 @@ UnsplitCause d other = ⊥
 -- Nothing in it differs.
 unfoldable pub SplitGives : List ℕ → ShelfState → ReportAndTape → Type 0
 SplitGives deck before given =
-    (given.differs ≡ false) × ((d : Deck) × SpellsDeck deck before d × IsDeck d × (search_size d ≤ MOST_SPLIT)
+    (given.differs ≡ false) × HasDeck deck before (λ d. (search_size d ≤ MOST_SPLIT)
     × ((sizes : List ℕ) × IsBest d sizes × (given ≡ record { text = split_text d sizes; tape = []; differs = false })))
 
 -- It reads its deck, which must be one that can be split, and writes no output.

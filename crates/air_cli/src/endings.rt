@@ -23,9 +23,16 @@ pub(crate) fn give_or_refuse<S: Shelf>(
 {
     match made {
         Ok(given) => deliver(shelf, output, &given),
-        Err(status) => match status {
-            Status::NoMemory => Status::NoMemory,
-            _ => refuse(alloc, shelf, status),
-        },
+        Err(status) => refuse_unmade(alloc, shelf, status),
+    }
+}
+
+/// Refuses with this status. Out of memory it does nothing more.
+pub(crate) fn refuse_unmade<S: Shelf>(alloc: Global, shelf: &mut S, status: Status) -> Status
+    ensures { EndsUnmade status (S.state shelf.old) (S.state shelf.new) result }
+{
+    match status {
+        Status::NoMemory => Status::NoMemory,
+        _ => refuse(alloc, shelf, status),
     }
 }

@@ -67,13 +67,13 @@ fn run<T: Threads + Sync, S: Shelf>(
     match command {
         Command::Plan { deck } => give_plan(alloc, shelf, deck),
         Command::Split { deck } => give_split(alloc, shelf, deck),
-        Command::Script { deck, tape } => script(threads, alloc, shelf, deck, *tape),
+        Command::Script { deck, tape } => script(alloc, shelf, deck, *tape),
         Command::Tune { deck, tape } => give_tuning(threads, alloc, shelf, deck, tape),
         Command::Beam { deck, tape } => beam(alloc, shelf, deck, tape),
         Command::Seek { tape, item, from } => {
             give_search(threads, alloc, shelf, tape, *item, *from)
         }
-        Command::Drill { seed, size } => give_drill(threads, alloc, shelf, *seed, *size),
+        Command::Drill { seed, size } => give_drill(alloc, shelf, *seed, *size),
         Command::Audit { deck, report } => give_audit(alloc, shelf, deck, report),
         Command::Run { .. } | Command::Cast { .. } | Command::Listen { .. } => {
             refuse_words(alloc, shelf)
@@ -139,19 +139,13 @@ fn give_search<T: Threads + Sync, S: Shelf>(
 }
 
 /// Runs the drill of a seed and a size and delivers its line; or refuses.
-fn give_drill<T: Threads + Sync, S: Shelf>(
-    threads: &T,
-    alloc: Global,
-    shelf: &mut S,
-    seed: u64,
-    size: u32,
-) -> Status
+fn give_drill<S: Shelf>(alloc: Global, shelf: &mut S, seed: u64, size: u32) -> Status
     requires some { 1 ≤ size }
     requires few { size ≤ MOST_DRILL_SIZE }
     ensures answers { QuietAnswers (drill_meaning seed size) (S.state shelf.old) (S.state shelf.new) result }
     ensures leaves { Leaves (drill_meaning seed size) (S.state shelf.old) (S.state shelf.new) }
 {
-    let made = drill(threads, alloc, seed, size);
+    let made = drill(alloc, seed, size);
     give_or_refuse(alloc, shelf, None, made)
 }
 

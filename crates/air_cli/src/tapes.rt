@@ -1,4 +1,4 @@
-//! A named tape that is read in pieces to its end while a hearer hears it, and the sessions of a deck's readers over it.
+//! A named tape that is read in pieces to its end while a tape hearer hears it, and the sessions of a deck's readers over it.
 
 ghost use Rattle.std.specs.Prelude.{◌≡◌, ◌≤◌, [], IfErr, IfOk, MatchResult, OnOk, length};
 ghost use Rattle.air_base.specs.declared.limits.TheConstants.{MOST_TAPE_BYTES};
@@ -6,13 +6,13 @@ ghost use Rattle.air_cli.specs.NamedFiles.{ReadsInput};
 ghost use Rattle.air_cli.specs.HeardTapes.{AreFileSessions, UnheardCause};
 ghost use Rattle.air_cli.specs.Private.Pieces.{IsCutBefore, IsOfTape};
 
-pub(crate) mod hearers;
 pub(crate) mod piece;
 pub(crate) mod searches;
+pub(crate) mod tape_hearers;
 pub(crate) mod whole_records;
 
-use crate::tapes::hearers::Hearer;
 use crate::tapes::piece::Piece;
+use crate::tapes::tape_hearers::TapeHearer;
 use crate::tapes::whole_records::hear_whole_records;
 use air_base::limits::MOST_TAPE_BYTES;
 use air_devices::Shelf;
@@ -71,9 +71,9 @@ pub fn piece_sessions<T: Threads + Sync, S: Shelf>(
     Ok(sessions)
 }
 
-/// Lets a hearer hear the records of a named tape, piece after piece, to its end.
+/// Lets a tape hearer hear the records of a named tape, piece after piece, to its end.
 #[tactic(auto, unfolding(crate::specs::HeardTapes::UnheardCause, crate::specs::NamedFiles::UnreadCause))]
-pub(crate) fn hear_pieces<T: Threads + Sync, H: Hearer, S: Shelf>(
+pub(crate) fn hear_pieces<T: Threads + Sync, H: TapeHearer, S: Shelf>(
     threads: &T,
     alloc: Global,
     shelf: &mut S,

@@ -4,3 +4,4 @@ pub mod SmallPrograms
 pub mod SmallAirings
 pub mod SmallSplits
 pub mod SmallGroups
+pub mod SmallFiles

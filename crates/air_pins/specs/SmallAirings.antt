@@ -28,6 +28,10 @@ four_buckets version edition = map spelling (
 abbrev pub two_item_groups : GroupBoard
 two_item_groups = record { cycle = 2; values = 11 ∷ 12 ∷ []; group = 2; columns = (1 ∷ 1 ∷ []) ∷ [] }
 
+-- The same board by groups of one item: each item has its own column.
+abbrev pub lone_item_groups : GroupBoard
+lone_item_groups = record { cycle = 2; values = 11 ∷ 12 ∷ []; group = 1; columns = (1 ∷ 0 ∷ []) ∷ (1 ∷ 1 ∷ []) ∷ [] }
+
 -- The buckets of edition 0 by groups of two.
 abbrev pub group_buckets : List (List ℕ)
 group_buckets = map spelling (

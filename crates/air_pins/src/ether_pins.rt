@@ -1,14 +1,15 @@
-//! These pins of `air_ether` say what a reader hears of the buckets that were pushed, and which words a push draws.
+//! These pins of `air_ether` say what a reader hears of the buckets that were pushed, which places an ether without bytes gives, and which words a
+//! push draws.
 //!
 //! Each fixes a seed and the odds, so that what is due can be computed.
 #![tactic(auto, unfolding(air_model::specs::Draws::words_by, air_model::specs::Ethers::times_heard, air_model::specs::Ethers::due_number, air_model::specs::Ethers::due_at, air_model::specs::Ethers::places_due, air_ether::specs::HeardSoFar::due_of))]
 
-ghost use Rattle.std.specs.Prelude.{◌≡◌, ◌≤◌, [], ◌∷◌, codes, true, false, IfOk, MatchOption};
+ghost use Rattle.std.specs.Prelude.{◌≡◌, ◌≤◌, [], ◌∷◌, codes, true, false, IfOk, MatchOption, Some};
 ghost use Rattle.air_ether.specs.HeardSoFar.{IsQuiet};
-ghost use Rattle.air_pins.specs.SmallEthers.{HasGivenBytes, nine, odds};
+ghost use Rattle.air_pins.specs.SmallEthers.{HasGivenBytes, HasGivenPlaces, nine, odds};
 
 use air_base::NoMemory;
-use air_ether::Ether;
+use air_ether::{Ether, PlaceEther};
 use std::alloc::Global;
 
 /// When the second push is made, the first one, which is delayed, is due with its own bucket. It also refuses that it is due one
@@ -84,4 +85,23 @@ pub fn readers_share_one_generator(alloc: Global) -> Result<Ether, NoMemory>
     ensures { IfOk result (λ ether. ether.generator ≡ record { state = 10238123810831757406; increment = 7 }) }
 {
     Ether::new(alloc, 12, 3, 0, 0, 0, 4)
+}
+
+/// Of two late pushes the second is due first, and without bytes its place is given first too.
+/// Promise: the ether is its definition
+pub fn places_in_the_order_of_pushes(ether: &mut PlaceEther) -> Option<u64>
+    requires { HasGivenPlaces 17 (odds 0 0 100) 2 0 true ether.old }
+    ensures { result ≡ Some 1 }
+{
+    ether.next()
+}
+
+/// Nothing is due of the first two pushes when they are made, so a third one is made, at which the second is due. If the first push was the last one,
+/// nothing would be heard; and if each place was due at its own push, place 0 would be.
+/// Promise: the ether is its definition
+pub fn one_push_before_the_next_place(ether: &mut PlaceEther) -> Option<u64>
+    requires { HasGivenPlaces 17 (odds 0 0 100) 0 0 false ether.old }
+    ensures { result ≡ Some 1 }
+{
+    ether.next_before(3)
 }

@@ -3,19 +3,20 @@
 //! The program's slots carry the items 0, 1, 0 and none, and from a replan on the items 0 and 1; the board is in cycle 2.
 #![tactic(auto, unfolding(air_model::specs::Disks::all_items, air_model::specs::Programs::least_common_multiple, air_model::specs::Programs::num_minors, air_model::specs::Programs::num_chunks, air_model::specs::Programs::chunk_len, air_model::specs::Programs::chunk, air_model::specs::Programs::minor_cycle, air_model::specs::Programs::program, air_model::specs::Tapes::record_bytes, air_model::specs::Tapes::tape_of, air_sender::specs::BoardBuckets::body_on, air_sender::specs::BoardBuckets::bucket_on, air_model::specs::Buckets::capped_body, air_model::specs::Buckets::capped_entries, air_history::specs::Ages::capped))]
 
-ghost use Rattle.std.specs.Prelude.{◌∷◌, ◌≡◌, ◌<◌, ◌≤◌, [], codes, length, take, Some, None, IsErr, IfErr, OnOk};
+ghost use Rattle.std.specs.Prelude.{◌∷◌, ◌≡◌, ◌<◌, ◌≤◌, [], codes, length, take, Some, None, IsErr, IfErr, IfOk, OnOk};
 ghost use Rattle.air_devices.specs.Masts.{fresh_mast};
 ghost use Rattle.air_sender.specs.AirFaults.{failed_slot};
 ghost use Rattle.air_sender.specs.TapeMasts.{tape_mast_state};
 ghost use Rattle.air_pins.specs.SmallPrograms.{idle_slot, in_edition, two_slots};
-ghost use Rattle.air_pins.specs.SmallAirings.{two_item_board, two_item_groups, four_buckets, group_buckets, sent};
+ghost use Rattle.air_pins.specs.SmallAirings.{two_item_board, two_item_groups, lone_item_groups, four_buckets, group_buckets, sent};
 
-use air_base::{Form, Policy};
+use air_base::{Form, NoMemory, Policy};
 use air_devices::{Failed, Mast};
-use air_sender::{AirFault, TapeMast, air_cycle, air_group_cycle, tape_bytes};
-use chunk_program::{Plans, Program};
+use air_sender::{AirFault, TapeMast, air_cycle, air_group_cycle, groups_of, tape_bytes};
+use chunk_program::{Planned, Plans, Program};
 use control_matrix::Board;
 use group_matrix::GroupBoard;
+use std::alloc::Global;
 
 /// Control columns, with their entries in full.
 const COLUMNS: Form = Form {
@@ -63,6 +64,35 @@ pub fn own_column_whatever_the_groups(
     ensures { OnOk result (tape_mast_state mast.new ≡ record { told = Some (sent group_buckets); faults = 0; port = None }) }
 {
     air_group_cycle(program, groups, COLUMNS, mast, buf)
+}
+
+/// With groups of one item each has its own column: item 1 isn't aired with that of the first group.
+/// Promise: a cycle is aired by groups
+pub fn first_group_aired_for_all(
+    program: &Program,
+    groups: &GroupBoard,
+    mast: &mut TapeMast,
+    buf: &mut [u8],
+) -> Result<(), AirFault>
+    requires program { program.now ≡ in_edition 0 idle_slot }
+    requires groups { groups.now ≡ lone_item_groups }
+    requires mast { tape_mast_state mast.old ≡ fresh_mast }
+    requires room { 32 ≤ length buf.old }
+    ensures { OnOk result (tape_mast_state mast.new ≡ record { told = Some (sent (four_buckets 1 0)); faults = 0; port = None }) }
+{
+    air_group_cycle(program, groups, COLUMNS, mast, buf)
+}
+
+/// A deck without groups has no board by groups.
+/// Promise: a cycle is aired by groups
+pub fn groups_if_the_deck_has_none(
+    alloc: Global,
+    planned: &Planned,
+) -> Result<Option<GroupBoard>, NoMemory>
+    requires { planned.now.settings.group ≡ 0 }
+    ensures { IfOk result (λ groups. groups ≡ None) }
+{
+    groups_of(alloc, planned)
 }
 
 /// In the form of version 2 the buckets are of version 2, also from a buffer that has no room for those of version 1.

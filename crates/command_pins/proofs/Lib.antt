@@ -1,7 +1,10 @@
 mod DrillLemmas
+mod EndLemmas
 mod HeadlineLemmas
 mod ProgramLemmas
 mod RowLemmas
 mod SplitLemmas
 mod WordLemmas
 mod DeviceExamples
+mod RightVerdictExamples
+mod UnreadExamples

@@ -73,7 +73,7 @@ is_long bytes before d told spells is =
 
 none_given : (bytes : List ℕ) (before : ShelfState) (given : ReportAndTape) → before.told.file (codes "d") ≡ Some bytes → Spells bytes long_deck → SplitGives (codes "d") before given → ⊥
 unfolding SplitGives
-none_given bytes before given told spells (same, (d, is, made, few, (sizes, best, text))) =
+none_given bytes before given told spells (same, (d, is, made, (few, (sizes, best, text)))) =
     let short : IsShortSplit long_deck sizes = subst (λ d. IsShortSplit d sizes) (is_long bytes before d told spells is) best.short in
     let fits = short.short in let low = at_least sizes short.split in omega arith
 

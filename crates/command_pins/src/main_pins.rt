@@ -185,10 +185,11 @@ pub fn difference_told_as_none<R: Threads + Wait + Sync, G: Gate + Sync>(
     air_main(rt, alloc, words, shelf, mast, ear, gate)
 }
 
-/// `run d t` that is refused for its deck leaves its output as it was. Regardless of its status it reads nothing of the file t and writes nothing to
-/// the output d. It also refuses that deck and tape change places.
+/// `run d t` that is refused for its deck leaves its output as it was. Regardless of its status it reads nothing of the file t, writes nothing to
+/// the output d, and leaves mast and ear as they were. It also refuses that deck and tape change places, and a run that is sent to the mast.
 /// Promise: what each status leaves outside
 /// Promise: run prints what it aired
+/// Promise: what goes over the air
 pub fn output_begun_before_the_deck_is_read<R: Threads + Wait + Sync, G: Gate + Sync>(
     rt: &R,
     alloc: Global,
@@ -205,6 +206,8 @@ pub fn output_begun_before_the_deck_is_read<R: Threads + Wait + Sync, G: Gate + 
     ensures refused { (row kind : ℕ) → result ≡ Status.Deck row kind → (told_by shelf.new).output (codes "t") ≡ (told_by shelf.old).output (codes "t") }
     ensures left { (told_by shelf.new).left (codes "t") ≡ (told_by shelf.old).left (codes "t") }
     ensures output { (told_by shelf.new).output (codes "d") ≡ (told_by shelf.old).output (codes "d") }
+    ensures mast { memory_mast_state mast.new ≡ memory_mast_state mast.old }
+    ensures ear { memory_ear_state ear.new ≡ memory_ear_state ear.old }
 {
     air_main(rt, alloc, words, shelf, mast, ear, gate)
 }
@@ -227,6 +230,28 @@ pub fn always_an_air_fault<R: Threads + Wait + Sync, G: Gate + Sync>(
     requires faults { mast.old.calls.faults ≡ 0 }
     ensures cause { (at : ℕ) → result ≡ Status.AirFault at → 1 ≤ mast.new.calls.faults }
     ensures refused { (row kind : ℕ) → result ≡ Status.Deck row kind → memory_mast_state mast.new ≡ memory_mast_state mast.old }
+{
+    air_main(rt, alloc, words, shelf, mast, ear, gate)
+}
+
+/// `cast d 4000` that has sent the end has counted no failure, regardless of its status: a second end that fails isn't answered as out of memory.
+/// Promise: what each status leaves outside
+/// Promise: what goes over the air
+pub fn failed_after_the_end<R: Threads + Wait + Sync, G: Gate + Sync>(
+    rt: &R,
+    alloc: Global,
+    words: &[String],
+    shelf: &mut MemShelf,
+    mast: &mut MemMast,
+    ear: &mut MemEar,
+    gate: &G,
+) -> Status
+    requires words { map (λ w. string_bytes w) words.now ≡ codes "cast" ∷ codes "d" ∷ codes "4000" ∷ [] }
+    requires unaimed { mast.old.port ≡ None }
+    requires unsent { sent_by mast.old ≡ nothing_sent }
+    requires untuned { ear.old.port ≡ None }
+    requires faults { mast.old.calls.faults ≡ 0 }
+    ensures { (count : ℕ) → (sent_by mast.new).ended ≡ Some count → mast.new.calls.faults ≡ 0 }
 {
     air_main(rt, alloc, words, shelf, mast, ear, gate)
 }

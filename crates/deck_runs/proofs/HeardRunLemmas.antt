@@ -1,5 +1,5 @@
 -- What is true of the runs of a deck, and of the tape of one. The laws and `air_run` cite these.
-use Rattle.std.proofs.Common.{◌≡◌, ℕ, zero, suc, ◌*◌, Some, List, [], ◌++◌, length, map, replicate, sym, ◌∙◌, ap, arith}
+use Rattle.std.proofs.Common.{◌≡◌, ℕ, zero, suc, ◌+◌, ◌*◌, ◌<◌, ◌≤◌, Some, List, [], ◌++◌, length, map, replicate, sym, ◌∙◌, ap, arith}
 use Rattle.air_history.specs.Histories.{starts}
 use Rattle.air_history.specs.declared.histories.Event.TheVariants.{Start}
 use Rattle.air_model.proofs.StartLemmas.{starts_none, starts_start}
@@ -27,7 +27,8 @@ use Rattle.chunk_program.specs.Plans.{AreShort}
 use Rattle.item_catalog.specs.DeckLimits.{WithinLimits}
 use Rattle.air_model.specs.Runs.{IsRun, Run}
 use Rattle.air_model.proofs.ItemLemmas.{items_aired}
-use Rattle.listeners.specs.HistoryTapes.{HasTape}
+use Rattle.listeners.specs.declared.readers.TheConstants.{MOST_TAPE_RECORDS}
+use Rattle.listeners.proofs.HistoryLemmas.{few_aired}
 use Rattle.air_sender.specs.AiredBytes.{aired_bytes}
 use Rattle.deck_runs.specs.RunTapes.{run_tape_len}
 use Rattle.deck_runs.specs.RunTruths.{IsTrueRun}
@@ -96,7 +97,16 @@ sent_all old new bytes fresh sent =
     let is : told_by_tape new ≡ with_buckets bytes (told_by_tape old) = cc in
     ap (λ s. s.buckets) is ∙ ap (λ s. s.buckets ++ bytes) was
 
-pub has_tape : (deck : Deck) (run : Run) (old new : TapeMast) (tape : List ℕ) → IsDeck deck → WithinLimits deck → AreShort deck → IsRun deck run → tape_mast_state old ≡ fresh_mast
-    → Changes (with_buckets (aired_bytes deck run.history)) (tape_mast_state old).told (tape_mast_state new).told → tape ≡ tape_of (told_by_tape new).buckets → HasTape deck run.history tape
-has_tape deck run old new tape made within short is fresh sent told =
-    record { aired = run_airs deck run made within short is; same = told ∙ ap tape_of (sent_all old new (aired_bytes deck run.history) fresh sent) }
+-- So its tape is the run's.
+pub sent_tape : (deck : Deck) (run : Run) (old new : TapeMast) → tape_mast_state old ≡ fresh_mast → Changes (with_buckets (aired_bytes deck run.history)) (tape_mast_state old).told (tape_mast_state new).told
+    → tape_of (told_by_tape new).buckets ≡ run_tape deck run.history
+sent_tape deck run old new fresh sent = ap tape_of (sent_all old new (aired_bytes deck run.history) fresh sent)
+
+-- ---- the readers
+
+-- A run airs few records, and starts few cycles.
+pub run_few : (deck : Deck) (run : Run) → IsRun deck run → run_tape_len deck ≤ 1073741824 → length (aired_bytes deck run.history) ≤ MOST_TAPE_RECORDS
+run_few deck run is few = omega (arith, few_aired deck run.history (omega (arith, run_length deck run is, few)))
+
+pub run_starts : (deck : Deck) (run : Run) → WithinLimits deck → IsRun deck run → starts run.history + 1 < 4294967296
+run_starts deck run within is = omega (arith, is.whole.cycles, within.settings.cycles)

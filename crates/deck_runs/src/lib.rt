@@ -1,8 +1,8 @@
 //! A run of a deck on threads: its jobs, what they leave, and what its readers make of it.
 //!
 //! `jobs` has what updaters, the conductor and monitors do. `threads` runs them side by side on a stage, from the beginning to the end: the history,
-//! and what the monitors saw. `runs` keeps what such a run airs as a tape, which the readers hear, and `casts` sends it to a mast. `tapes` computes
-//! beforehand how long the tape is. `laws` says what is true of every run of a deck.
+//! and what the monitors saw. `runs` keeps what such a run airs as a tape, and lets the readers hear its history; `casts` sends it to a mast. `tapes`
+//! computes beforehand how long the tape is. `laws` says what is true of every run of a deck.
 #![tactic(auto)]
 
 mod casts;

@@ -29,7 +29,7 @@ pub struct HeardRun {
     pub tape: TapeMast,
 }
 
-/// Runs a deck on threads, and lets each reader hear the tape through its own ether.
+/// Runs a deck on threads, and lets each reader hear what the run's history airs through its own ether.
 pub fn air_run<R: Threads + Wait + Sync, G: Gate + Sync>(
     rt: &R,
     alloc: Global,
@@ -48,7 +48,7 @@ pub fn air_run<R: Threads + Wait + Sync, G: Gate + Sync>(
     let Ok(run) = run_threads(rt, alloc, planned, &mut tape, gate) else {
         return Err(NoMemory);
     };
-    let sessions = history_sessions(rt, alloc, planned, tape.tape())?;
+    let sessions = history_sessions(alloc, planned, run.history.events())?;
     Ok(HeardRun {
         run,
         sessions,

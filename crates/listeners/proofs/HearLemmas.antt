@@ -1,9 +1,9 @@
 -- One listener hears member by member: what it is after a list, after its pieces, and at its end.
 -- The methods of `Listener` and the laws cite these.
-use Rattle.std.proofs.Common.{◌≡◌, ℕ, ◌+◌, ◌<◌, List, [], ◌∷◌, ◌++◌, Option, Result, Ok, Err, length, map, take, get_or, refl, sym, ◌∙◌, ap, arith}
+use Rattle.std.proofs.Common.{◌≡◌, ℕ, ◌+◌, List, [], ◌∷◌, ◌++◌, Option, Result, Ok, Err, length, refl, sym, ◌∙◌, ap, arith}
 use Rattle.std.specs.Result.{result_ok}
 use Rattle.std.proofs.lemmas.Bool.{cond-false}
-use Rattle.std.proofs.lemmas.List.{append-nil, map_more}
+use Rattle.std.proofs.lemmas.List.{append-nil}
 use Rattle.air_model.specs.declared.bucket.BucketFault.{BucketFault}
 use Rattle.air_model.specs.Aired.{fits, scheme_in}
 use Rattle.air_model.specs.Buckets.{Bucket}
@@ -92,11 +92,3 @@ ended_all (o ∷ members) l = ended_all members (hears_one o l)
 pub session_is : (deck : Deck) (r : ℕ) (members : List (Option Bucket)) → end_state (hears members (listener_of deck r)) ≡ session_of (by_entries (scheme_in deck)) deck r members
 unfolding session
 session_is deck r members = ended_all members (listener_of deck r)
-
--- So far the first members of a list were heard.
-pub hears_more : {X : Type 0} (member : X → Option Bucket) (xs : List X) (i : ℕ) (x : X) (before now after : Listener) → i < length xs → x ≡ get_or xs i x
-    → now ≡ hears (map member (take i xs)) before → after ≡ hears_one (member x) now → after ≡ hears (map member (take (i + 1) xs)) before
-unfolding hears
-hears_more member xs i x before now after below here so_far heard =
-    heard ∙ ap (hears_one (member x)) so_far ∙ sym (pieces (map member (take i xs)) (member x ∷ []) before)
-    ∙ ap (λ l. hears l before) (ap (λ y. map member (take i xs) ++ member y ∷ []) here ∙ sym (map_more member xs i x below))

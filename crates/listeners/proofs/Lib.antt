@@ -3,12 +3,12 @@ pub mod EndLemmas
 pub mod CountLemmas
 pub mod HearLemmas
 pub mod ReaderLemmas
-pub mod EtherLemmas
 pub mod PieceLemmas
 pub mod RunLemmas
-pub mod ApartLemmas
 pub mod TogetherLemmas
-mod HistoryLemmas
+pub mod HistoryLemmas
+pub mod SourceLemmas
+pub mod DeckCycleLemmas
 pub mod SleepLemmas
 pub mod PlaceLemmas
 pub mod PlaceReaderLemmas

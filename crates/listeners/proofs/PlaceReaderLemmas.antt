@@ -21,7 +21,7 @@ use Rattle.air_model.specs.Ethers.{Odds, heard_by, places_due}
 use Rattle.air_model.specs.Outputs.{odds_in}
 use Rattle.air_sender.specs.BoardBuckets.{board_bytes, bucket_on}
 use Rattle.air_sender.proofs.SendLemmas.{length_cycle}
-use Rattle.listeners.specs.declared.ethers.TheConstants.{MOST_TAPE_RECORDS}
+use Rattle.listeners.specs.declared.readers.TheConstants.{MOST_TAPE_RECORDS}
 use Rattle.listeners.specs.declared.place_hearers.PlaceHearers.{PlaceHearers}
 use Rattle.listeners.specs.declared.place_listeners.PlaceListener.{PlaceListener}
 use Rattle.listeners.specs.AiredCycles.{AreFitting}

@@ -1,5 +1,5 @@
 -- A deck's readers, each of which has heard a list of its own: their numbers and sessions; and what a perfect ether gives.
--- The calls of `apart`, `hearers` and `whole_tapes` cite these, and crates above.
+-- The calls of `hearers` and `place_hearers` cite these, and crates above.
 use Rattle.std.proofs.Common.{◌≡◌, ℕ, zero, suc, ◌+◌, ◌*◌, List, [], ◌∷◌, length, map, refl, sym, ◌∙◌, ap}
 use Rattle.std.specs.List.{range_with_len}
 use Rattle.std.proofs.lemmas.List.FromFn.{length-map-range_with_len}
@@ -13,7 +13,7 @@ use Rattle.air_model.specs.Outputs.{odds_in, sessions_over}
 use Rattle.air_model.specs.ReceiverLaws.{session_of}
 use Rattle.air_model.specs.Sessions.{State}
 use Rattle.air_model.proofs.EtherLemmas.{clear_ether}
-use Rattle.listeners.specs.EtherListeners.{IsPerfect}
+use Rattle.listeners.specs.Hearings.{IsPerfect}
 use Rattle.listeners.specs.Listeners.{AreNumbered, Listener, end_state, hears, listener_of}
 use Rattle.listeners.proofs.HearLemmas.{session_is}
 use Rattle.listeners.proofs.ReaderLemmas.{keeps_number}

@@ -11,10 +11,10 @@ use Rattle.std.proofs.lemmas.Simd.{map-map}
 use Rattle.air_model.specs.Aired.{Air, air_of}
 use Rattle.air_model.specs.Buckets.{Bucket, IsInRange, bucket_in}
 use Rattle.air_model.specs.Decks.{Deck}
-use Rattle.listeners.specs.declared.ethers.TheConstants.{MOST_TAPE_RECORDS}
+use Rattle.listeners.specs.declared.readers.TheConstants.{MOST_TAPE_RECORDS}
 use Rattle.listeners.specs.declared.judged.JudgedPiece.{JudgedPiece}
 use Rattle.listeners.specs.declared.together.TogetherReader.{TogetherReader}
-use Rattle.listeners.specs.EtherListeners.{IsPerfect}
+use Rattle.listeners.specs.Hearings.{IsPerfect}
 use Rattle.listeners.specs.Hearings.{AreTogether}
 use Rattle.listeners.specs.Listeners.{Listener, hears, listener_of}
 use Rattle.listeners.specs.Private.TogetherSteps.{CanHear, EachHeard, HasHeardMembers, KnowsAir, listeners_in}

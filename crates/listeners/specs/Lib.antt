@@ -1,7 +1,5 @@
 pub mod Listeners
-pub mod EtherListeners
 pub mod Hearings
 pub mod PlaceListeners
 pub mod Private
-pub mod HistoryTapes
 pub mod AiredCycles

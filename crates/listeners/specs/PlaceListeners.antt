@@ -8,7 +8,7 @@ use Rattle.air_model.specs.Buckets.{Bucket, bucket_in}
 use Rattle.air_model.specs.Decks.{Deck}
 use Rattle.air_model.specs.Outputs.{odds_in}
 use Rattle.receiver_core.specs.Receivers.{heard_count}
-use Rattle.listeners.specs.declared.late_buckets.TheConstants.{KEPT_BUCKETS}
+use Rattle.listeners.specs.declared.last_buckets.TheConstants.{KEPT_BUCKETS}
 use Rattle.listeners.specs.declared.place_listeners.PlaceListener.{PlaceListener}
 use Rattle.listeners.specs.declared.place_hearers.PlaceHearers.{PlaceHearers}
 use Rattle.listeners.specs.Listeners.{hears, listener_of}

@@ -131,7 +131,7 @@ fn hear_cycle<S: Source>(
 
 /// Lets all hear what a source airs in its cycle by a program, one reader after another, and gives them back. If memory runs out, they are
 /// dropped. The buffer has room for a bucket's bytes.
-pub fn all_hear_cycle<S: Source>(
+pub(crate) fn all_hear_cycle<S: Source>(
     alloc: Global,
     listeners: Vec<Listener>,
     program: &Program,

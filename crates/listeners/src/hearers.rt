@@ -1,37 +1,43 @@
-//! All readers of a deck, who hear a tape piece by piece: together, or each its own ether.
+//! All readers of a deck, who hear cycle by cycle what is aired: together, or each through its own ether.
 //!
-//! If nothing is lost, heard again or delayed, each ether gives the tape itself: then all hear the same. Else each record is pushed
-//! into every ether. Either way the readers step side by side, and their sessions are those over all pieces together.
+//! If nothing is lost, heard again or delayed, each ether gives what is aired: then all hear the same. Else each reader hears what its
+//! ether gives, by places. Either way they hear a cycle from its source, and their sessions are those over all cycles together.
 
-ghost use Rattle.std.specs.Prelude.{◌≡◌, ◌↔◌, ◌≤◌, ◌+◌, ◌*◌, ◌++◌, ℕ, List, [], All, IfOk, IsTrue, None, OnOk, length};
+ghost use Rattle.std.specs.Prelude.{◌≡◌, ◌↔◌, ◌≤◌, ◌+◌, ◌*◌, ◌++◌, ◌∷◌, ℕ, List, [], IfOk, IsTrue, length};
+ghost use Rattle.air_history.specs.declared.histories.Event.{Event};
+ghost use Rattle.air_history.specs.declared.histories.Event.TheVariants.{Start};
 ghost use Rattle.air_model.specs.Aired.{scheme_in};
 ghost use Rattle.air_model.specs.Buckets.{entry_len};
+ghost use Rattle.air_model.specs.Decks.{Deck};
 ghost use Rattle.air_model.specs.Ethers.{heard_by};
 ghost use Rattle.air_model.specs.Judges.{by_entries};
 ghost use Rattle.air_model.specs.Outputs.{odds_in, sessions_over};
 ghost use Rattle.air_model.specs.Reports.{counts_lines, verdict_lines};
-ghost use Rattle.air_model.specs.Tapes.{tape_read};
+ghost use Rattle.air_sender.specs.AiredBytes.{aired_bytes};
 ghost use Rattle.bucket_codec.specs.declared.offsets.TheConstants.{HEAD_BYTES};
-ghost use Rattle.listeners.specs.declared.ethers.TheConstants.{MOST_TAPE_RECORDS};
-ghost use Rattle.listeners.specs.EtherListeners.{IsPerfect};
-ghost use Rattle.listeners.specs.Hearings.{AreHearing};
+ghost use Rattle.listeners.specs.declared.readers.TheConstants.{MOST_TAPE_RECORDS};
+ghost use Rattle.listeners.specs.AiredCycles.{AirsAfter, AirsFrom};
+ghost use Rattle.listeners.specs.Hearings.{AreHearing, CanHearAfter, IsPerfect};
 
-use crate::apart::Apart;
-use crate::readers::Sessions;
-use crate::together::Together;
+use crate::deck_cycles::{hear_apart, hear_together};
+use crate::listener::Listener;
+use crate::place_hearers::PlaceHearers;
+use crate::readers::{Sessions, end_all, listeners_of};
 use air_base::NoMemory;
+use air_sender::Source;
 use chunk_program::Planned;
+use control_matrix::Board;
+use group_matrix::GroupBoard;
 use item_catalog::Deck;
 use std::alloc::Global;
-use std::thread::Threads;
 
-/// All readers of a deck, who hear a tape piece by piece: together, or each its own ether.
+/// All readers of a deck, who hear cycle by cycle what is aired: together, or each through its own ether.
 #[derive(Drop)]
 pub enum Hearers {
     /// Nothing is lost, heard again or delayed: all hear the same.
-    Together(Together),
-    /// Each hears its own ether.
-    Apart(Apart),
+    Together(Vec<Listener>),
+    /// Each hears what its own ether gives.
+    Apart(PlaceHearers),
 }
 
 impl Hearers {
@@ -40,58 +46,80 @@ impl Hearers {
         ensures { IfOk result (AreHearing planned.now []) }
     {
         if is_perfect(planned.deck()) {
-            return Ok(Hearers::Together(Together::new(alloc, planned)?));
+            return Ok(Hearers::Together(listeners_of(alloc, planned)?));
         }
-        Ok(Hearers::Apart(Apart::new(alloc, planned)?))
+        Ok(Hearers::Apart(PlaceHearers::new(alloc, planned)?))
     }
 
-    /// Lets all hear a piece of the tape: a whole one, as `TapeReader` tells, whose records are of the sizes of the deck's buckets.
-    pub fn hear<T: Threads + Sync>(
-        &mut self,
-        threads: &T,
-        alloc: Global,
-        planned: &Planned,
-        piece: &[u8],
-    ) -> Result<(), NoMemory>
-        requires whole { (tape_read piece.now).cut ≡ None }
-        requires room { All (λ r. length r ≤ HEAD_BYTES + entry_len planned.now.settings.version * length planned.now.items) (tape_read piece.now).records }
-        requires few { (pushed : List (List ℕ)) × AreHearing planned.now pushed self.old × (length pushed + length (tape_read piece.now).records ≤ MOST_TAPE_RECORDS) }
-        ensures { (pushed : List (List ℕ)) → AreHearing planned.now pushed self.old → OnOk result (AreHearing planned.now (pushed ++ (tape_read piece.now).records) self.new) }
-    {
-        match self {
-            Hearers::Together(together) => {
-                together.hear(threads, alloc, piece)?;
-                Ok(())
-            }
-            Hearers::Apart(apart) => apart.hear(threads, alloc, planned, piece),
-        }
-    }
-
-    /// Ends the sessions of all, each of which has heard all that its ether gives of the pieces.
-    pub fn end<T: Threads + Sync>(
+    /// Lets all hear the cycle that a board airs, or its board by groups if there is one, and gives them back. If memory runs out, they are
+    /// dropped. The buffer has room for a bucket's bytes.
+    pub fn hear_board(
         self,
-        threads: &T,
         alloc: Global,
         planned: &Planned,
-    ) -> Result<Sessions, NoMemory>
-        requires { (pushed : List (List ℕ)) × AreHearing planned.now pushed self × (length pushed ≤ MOST_TAPE_RECORDS) }
-        ensures verdicts { (pushed : List (List ℕ)) → AreHearing planned.now pushed self → IfOk result (λ s. s.verdicts.items
-            ≡ verdict_lines (sessions_over (by_entries (scheme_in planned.now)) planned.now (λ r. heard_by planned.now.settings.seed r (odds_in planned.now) pushed))) }
-        ensures counts { (pushed : List (List ℕ)) → AreHearing planned.now pushed self → IfOk result (λ s. s.counts.items
-            ≡ counts_lines (sessions_over (by_entries (scheme_in planned.now)) planned.now (λ r. heard_by planned.now.settings.seed r (odds_in planned.now) pushed))) }
+        board: &Board,
+        groups: &Option<GroupBoard>,
+        buf: &mut [u8],
+    ) -> Result<Hearers, NoMemory>
+        requires source { (G : List Event) × AirsFrom planned.now G board.now groups.now × CanHearAfter planned.now G self }
+        requires room { length buf.old ≡ HEAD_BYTES + entry_len planned.now.settings.version * length planned.now.items }
+        ensures heard { (G : List Event) → AirsFrom planned.now G board.now groups.now → CanHearAfter planned.now G self →
+            IfOk result (AreHearing planned.now (aired_bytes planned.now (G ++ Start ∷ []))) }
+        ensures room { length buf.new ≡ length buf.old }
+    {
+        match groups {
+            None => self.hear_cycle(alloc, planned, board, buf),
+            Some(groups) => self.hear_cycle(alloc, planned, groups, buf),
+        }
+    }
+
+    /// Lets all hear the cycle of a source, and gives them back. If memory runs out, they are dropped.
+    fn hear_cycle<S: Source>(
+        self,
+        alloc: Global,
+        planned: &Planned,
+        source: &S,
+        buf: &mut [u8],
+    ) -> Result<Hearers, NoMemory>
+        requires source { (G : List Event) × AirsAfter planned.now G (S.board source.now) × CanHearAfter planned.now G self }
+        requires allowed { S.airs planned.now.settings.policy }
+        requires room { length buf.old ≡ HEAD_BYTES + entry_len planned.now.settings.version * length planned.now.items }
+        ensures heard { (G : List Event) → AirsAfter planned.now G (S.board source.now) → CanHearAfter planned.now G self →
+            IfOk result (AreHearing planned.now (aired_bytes planned.now (G ++ Start ∷ []))) }
+        ensures room { length buf.new ≡ length buf.old }
     {
         match self {
-            Hearers::Together(together) => {
-                let sessions = together.end(alloc)?;
+            Hearers::Together(listeners) => {
+                let listeners = hear_together(alloc, planned, source, listeners, buf)?;
+                Ok(Hearers::Together(listeners))
+            }
+            Hearers::Apart(hearers) => {
+                let hearers = hear_apart(alloc, planned, source, hearers, buf)?;
+                Ok(Hearers::Apart(hearers))
+            }
+        }
+    }
+
+    /// Ends the sessions of all, each of which has heard all that its ether gives of what was aired.
+    pub fn end(self, alloc: Global) -> Result<Sessions, NoMemory>
+        requires { (deck : Deck) × (pushed : List (List ℕ)) × AreHearing deck pushed self × (length pushed ≤ MOST_TAPE_RECORDS) }
+        ensures verdicts { (deck : Deck) (pushed : List (List ℕ)) → AreHearing deck pushed self → IfOk result (λ s. s.verdicts.items
+            ≡ verdict_lines (sessions_over (by_entries (scheme_in deck)) deck (λ r. heard_by deck.settings.seed r (odds_in deck) pushed))) }
+        ensures counts { (deck : Deck) (pushed : List (List ℕ)) → AreHearing deck pushed self → IfOk result (λ s. s.counts.items
+            ≡ counts_lines (sessions_over (by_entries (scheme_in deck)) deck (λ r. heard_by deck.settings.seed r (odds_in deck) pushed))) }
+    {
+        match self {
+            Hearers::Together(listeners) => {
+                let sessions = end_all(alloc, listeners)?;
                 Ok(sessions)
             }
-            Hearers::Apart(apart) => apart.end(threads, alloc, planned),
+            Hearers::Apart(hearers) => hearers.end(alloc),
         }
     }
 }
 
 /// Whether nothing of what is aired is lost, heard again or delayed.
-pub fn is_perfect(deck: &Deck) -> bool
+fn is_perfect(deck: &Deck) -> bool
     ensures { IsTrue result ↔ IsPerfect deck.now }
 {
     let set = deck.settings();

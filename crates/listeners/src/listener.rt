@@ -24,7 +24,7 @@ ghost use Rattle.listeners.specs.Private.PlaceSteps.{AreMembers, places_to};
 
 use crate::cycles::{hear_slot, sleep};
 use crate::judged::{JudgedPiece, sleep_in};
-use crate::late_buckets::LateBuckets;
+use crate::last_buckets::LastBuckets;
 use crate::places::{hear_place, sleep_places};
 use crate::readers::Sessions;
 use crate::verdicts::{SessionLine, end_queries, take_verdicts};
@@ -133,7 +133,7 @@ impl Listener {
         source: &S,
         form: Form,
         first: u64,
-        late: &LateBuckets,
+        late: &LastBuckets,
         buf: &mut [u8],
     ) -> Result<bool, NoMemory>
         requires fitting { AreFitting self.old.air form program.now.edition (slots_of program.now.disks) (S.board source.now) }

@@ -12,13 +12,13 @@ ghost use Rattle.air_model.specs.Programs.{program as slots_of};
 ghost use Rattle.air_model.specs.Reports.{counts_lines, verdict_lines};
 ghost use Rattle.air_sender.specs.BoardBuckets.{EntriesBelow, board_bytes, bucket_on};
 ghost use Rattle.bucket_codec.specs.declared.offsets.TheConstants.{HEAD_BYTES};
-ghost use Rattle.listeners.specs.declared.ethers.TheConstants.{MOST_TAPE_RECORDS};
-ghost use Rattle.listeners.specs.declared.late_buckets.TheConstants.{KEPT_BUCKETS};
+ghost use Rattle.listeners.specs.declared.readers.TheConstants.{MOST_TAPE_RECORDS};
+ghost use Rattle.listeners.specs.declared.last_buckets.TheConstants.{KEPT_BUCKETS};
 ghost use Rattle.listeners.specs.AiredCycles.{AreFitting};
 ghost use Rattle.listeners.specs.PlaceListeners.{AreGivenEach, AreGivenPlaces, AreLate};
 ghost use Rattle.listeners.specs.Private.PlaceSteps.{AllEndedPlaces, AllHearPlaces, AreKeptFrom, CanHearPlaces};
 
-use crate::late_buckets::{KEPT_BUCKETS, LateBuckets};
+use crate::last_buckets::{KEPT_BUCKETS, LastBuckets};
 use crate::listener::Listener;
 use crate::place_listeners::PlaceListener;
 use crate::readers::{Sessions, end_all};
@@ -30,7 +30,7 @@ use std::alloc::Global;
 /// Keeps the last buckets of a source's cycle, the first of which has this place.
 fn keep_last<S: Source>(
     alloc: Global,
-    late: &mut LateBuckets,
+    late: &mut LastBuckets,
     program: &Program,
     source: &S,
     form: Form,
@@ -66,7 +66,7 @@ fn all_hear<S: Source>(
     source: &S,
     form: Form,
     first: u64,
-    late: &LateBuckets,
+    late: &LastBuckets,
     buf: &mut [u8],
 ) -> Result<Vec<PlaceListener>, NoMemory>
     requires ready { All (CanHearPlaces form program.now.edition (slots_of program.now.disks) (S.board source.now) first) readers.items }
@@ -91,7 +91,7 @@ fn all_hear<S: Source>(
 fn end_each(
     alloc: Global,
     readers: Vec<PlaceListener>,
-    late: &LateBuckets,
+    late: &LastBuckets,
 ) -> Result<Vec<PlaceListener>, NoMemory>
     requires { (deck : Deck) × (pushed : List (List ℕ)) × AreGivenEach deck pushed readers.items × AreLate pushed late.now × (length pushed ≤ MOST_TAPE_RECORDS) }
     ensures { IfOk result (λ now. AllEndedPlaces late.now readers.items now.items) }
@@ -122,7 +122,7 @@ fn listeners_of_places(
 #[derive(Drop)]
 pub struct PlaceHearers {
     readers: Vec<PlaceListener>,
-    late: LateBuckets,
+    late: LastBuckets,
     pushes: u64,
 }
 
@@ -137,7 +137,7 @@ impl PlaceHearers {
         }
         Ok(PlaceHearers {
             readers,
-            late: LateBuckets::new(alloc)?,
+            late: LastBuckets::new(alloc)?,
             pushes: 0,
         })
     }

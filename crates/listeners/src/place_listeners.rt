@@ -13,13 +13,13 @@ ghost use Rattle.air_model.specs.Programs.{program as slots_of};
 ghost use Rattle.air_sender.specs.BoardBuckets.{EntriesBelow, board_bytes, bucket_on};
 ghost use Rattle.bucket_codec.specs.declared.offsets.TheConstants.{HEAD_BYTES};
 ghost use Rattle.receiver_core.specs.Receivers.{heard_count};
-ghost use Rattle.listeners.specs.declared.ethers.TheConstants.{MOST_TAPE_RECORDS};
+ghost use Rattle.listeners.specs.declared.readers.TheConstants.{MOST_TAPE_RECORDS};
 ghost use Rattle.listeners.specs.AiredCycles.{AreFitting};
 ghost use Rattle.listeners.specs.Listeners.{hears, listener_of};
 ghost use Rattle.listeners.specs.PlaceListeners.{AreLate, IsPlaceListener};
 ghost use Rattle.listeners.specs.Private.PlaceSteps.{HearsPlaces};
 
-use crate::late_buckets::LateBuckets;
+use crate::last_buckets::LastBuckets;
 use crate::listener::Listener;
 use air_base::{Form, NoMemory};
 use air_ether::PlaceEther;
@@ -57,7 +57,7 @@ impl PlaceListener {
         source: &S,
         form: Form,
         first: u64,
-        late: &LateBuckets,
+        late: &LastBuckets,
         buf: &mut [u8],
     ) -> Result<(), NoMemory>
         requires at { self.old.ether.pushes ≡ first }
@@ -92,7 +92,7 @@ impl PlaceListener {
     }
 
     /// Hears all the rest: of what was pushed, the last buckets are kept.
-    pub fn end(&mut self, alloc: Global, late: &LateBuckets) -> Result<(), NoMemory>
+    pub fn end(&mut self, alloc: Global, late: &LastBuckets) -> Result<(), NoMemory>
         requires { (deck : Deck) × (number : ℕ) × (pushed : List (List ℕ)) × IsPlaceListener deck number pushed self.old × AreLate pushed late.now × (length pushed ≤ MOST_TAPE_RECORDS) }
         ensures { (deck : Deck) (number : ℕ) (pushed : List (List ℕ)) → IsPlaceListener deck number pushed self.old → AreLate pushed late.now →
             OnOk result (self.new.listener ≡ hears (map bucket_in (heard_by deck.settings.seed number (odds_in deck) pushed)) (listener_of deck number)) }

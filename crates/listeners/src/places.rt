@@ -15,7 +15,7 @@ ghost use Rattle.air_model.specs.Sessions.{SessionLine};
 ghost use Rattle.air_sender.specs.BoardBuckets.{EntriesBelow};
 ghost use Rattle.bucket_codec.specs.declared.offsets.TheConstants.{HEAD_BYTES};
 ghost use Rattle.receiver_core.specs.Receivers.{IsSettled, heard_count};
-ghost use Rattle.listeners.specs.declared.late_buckets.TheConstants.{KEPT_BUCKETS};
+ghost use Rattle.listeners.specs.declared.last_buckets.TheConstants.{KEPT_BUCKETS};
 ghost use Rattle.listeners.specs.AiredCycles.{AreFitting};
 ghost use Rattle.listeners.specs.Listeners.{hears, hears_one};
 ghost use Rattle.listeners.specs.PlaceListeners.{given_at};
@@ -23,7 +23,7 @@ ghost use Rattle.listeners.specs.Private.PlaceSteps.{AreMembers, AreSkipped, Giv
 ghost use Rattle.listeners.specs.Private.Sleeping.{listening};
 
 use crate::cycles::hear_slot;
-use crate::late_buckets::LateBuckets;
+use crate::last_buckets::LastBuckets;
 use air_base::Form;
 use air_ether::PlaceEther;
 use air_sender::Source;
@@ -143,7 +143,7 @@ pub(crate) fn hear_place<S: Source>(
     source: &S,
     form: Form,
     first: u64,
-    late: &LateBuckets,
+    late: &LastBuckets,
     place: u64,
     buf: &mut [u8],
 )

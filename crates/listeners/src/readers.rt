@@ -21,6 +21,9 @@ use std::alloc::Global;
 /// In how many threads readers hear at most.
 pub(crate) const MOST_THREADS: usize = 16;
 
+/// How many records listeners hear of one tape: what they count of them fits 64 bits.
+pub const MOST_TAPE_RECORDS: u64 = 1_099_511_627_776;
+
 /// What the sessions of a deck's readers tell: their verdicts in order, reader by reader, and the counts of each.
 #[derive(Debug, Drop)]
 pub struct Sessions {

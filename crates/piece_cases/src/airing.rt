@@ -17,7 +17,6 @@ use chunk_program::Planned;
 use listeners::Sessions;
 use scripts::{PieceRun, ScriptAiring, hear_script, piece_cycles};
 use std::alloc::Global;
-use std::thread::Threads;
 
 /// The greatest number of pieces of a script: one for each of its events.
 const MOST_PIECES: u32 = 110_000;
@@ -41,8 +40,7 @@ pub fn sizes(
 }
 
 /// Airs the deck's script to all its readers, in pieces of a number of cycles.
-pub fn air<T: Threads + Sync>(
-    threads: &T,
+pub fn air(
     alloc: Global,
     text: &[u8],
     parts: &mut Parts<'_>,
@@ -55,12 +53,11 @@ pub fn air<T: Threads + Sync>(
     if tape_len(&planned) > MOST_TAPE_BYTES as u64 {
         return add_line(b"too long", &[], came);
     }
-    air_pieces(threads, alloc, &planned, cycles, came)
+    air_pieces(alloc, &planned, cycles, came)
 }
 
 /// The same for a deck with its plans.
-fn air_pieces<T: Threads + Sync>(
-    threads: &T,
+fn air_pieces(
     alloc: Global,
     planned: &Planned,
     cycles: u32,
@@ -76,31 +73,26 @@ fn air_pieces<T: Threads + Sync>(
             break;
         }
         let first = aired.run.events.len();
-        aired.next_piece(threads, alloc, planned)?;
+        aired.next_piece(alloc, planned)?;
         add_piece(&aired.run.events, first, aired.piece(), &mut tape, came)?;
     }
     if !aired.is_done(planned) {
         return add_line(b"not done", &[], came);
     }
-    let (events, sessions) = aired.end(threads, alloc, planned)?;
+    let (events, sessions) = aired.end(alloc, planned)?;
     add_tape(&tape, came)?;
     add_report(alloc, events, sessions, came)
 }
 
 /// Lets all readers hear the deck's script without its tape.
-pub fn script<T: Threads + Sync>(
-    threads: &T,
-    alloc: Global,
-    text: &[u8],
-    came: &mut Vec<u8>,
-) -> Result<(), NoMemory> {
+pub fn script(alloc: Global, text: &[u8], came: &mut Vec<u8>) -> Result<(), NoMemory> {
     let Some(planned) = planned_deck(alloc, text) else {
         return add_line(b"no deck", &[], came);
     };
     if tape_len(&planned) > MOST_TAPE_BYTES as u64 {
         return add_line(b"too long", &[], came);
     }
-    let heard = hear_script(threads, alloc, &planned)?;
+    let heard = hear_script(alloc, &planned)?;
     add_report(alloc, heard.events, heard.sessions, came)
 }
 

@@ -1,8 +1,8 @@
 -- What the pieces of a script's indexed tape are, and what a sink took of them.
-use Rattle.std.proofs.Common.{◌≡◌, ℕ, zero, suc, ◌+◌, ◌-◌, ◌<◌, ◌≤◌, None, Some, List, [], ◌∷◌, ◌++◌, length, map, take, drop, All, cond, refl, sym, ◌∙◌, ap, subst, inl, inr, arith, length-append}
+use Rattle.std.proofs.Common.{◌≡◌, ℕ, zero, suc, ◌+◌, ◌-◌, ◌≤◌, Some, List, [], ◌∷◌, ◌++◌, length, take, drop, cond, refl, sym, ◌∙◌, ap, subst, inl, inr, arith, length-append}
 use Rattle.std.specs.Prelude.{Result, Ok, Err, IfErr, IsErrAnd, sum_by}
 use Rattle.std.specs.List.{range_with_len}
-use Rattle.std.proofs.lemmas.List.{append-nil, length-map, take-append-drop, take-take, take_all}
+use Rattle.std.proofs.lemmas.List.{length-map, take-append-drop, take-take, take_all}
 use Rattle.std.proofs.lemmas.List.Concat.{length-flat_map}
 use Rattle.std.proofs.lemmas.List.Elements.{Contains-get_or}
 use Rattle.std.proofs.lemmas.List.FromFn.{length-map-range_with_len}
@@ -14,8 +14,8 @@ use Rattle.air_index.proofs.PieceLemmas.{pieces_are}
 use Rattle.air_model.specs.Aired.{air_of, bucket_of, buckets_of, cycle_buckets, slots_at}
 use Rattle.air_model.specs.AiredLaws.{CanAir}
 use Rattle.air_model.specs.Buckets.{Bucket, bucket_in, spelling}
-use Rattle.air_model.specs.Decks.{Deck, IsDeck, script_history, values_in}
-use Rattle.air_model.specs.Tapes.{tape_of, tape_read}
+use Rattle.air_model.specs.Decks.{Deck, script_history, values_in}
+use Rattle.air_model.specs.Tapes.{tape_of}
 use Rattle.air_model.proofs.EditionLemmas.{slots_are}
 use Rattle.air_model.proofs.RangeLemmas.{bytes_aired}
 use Rattle.air_sender.specs.AiredBytes.{aired_bytes}
@@ -28,7 +28,7 @@ use Rattle.scripts.specs.PieceRuns.{IsPieceRun}
 use Rattle.scripts.specs.Sinks.{StopsAt}
 use Rattle.scripts.specs.declared.piece_runs.PieceRun.{PieceRun}
 use Rattle.scripts.specs.declared.script_beaming.ScriptBeaming.{ScriptBeaming}
-use Rattle.scripts.proofs.TapePieceLemmas.{middle, nothing_aired, script_begins}
+use Rattle.scripts.proofs.TapePieceLemmas.{middle, script_begins}
 
 -- ---- starts
 

@@ -12,5 +12,3 @@ mod NumberExamples
 mod LongestExamples
 mod HeardLemmas
 pub mod BeamPieces
-mod SourceLemmas
-mod PlaceRunLemmas

@@ -1,11 +1,11 @@
 -- What the pieces of a script's tape are, and what the sessions are of readers that heard them all.
-use Rattle.std.proofs.Common.{◌≡◌, ℕ, ◌+◌, ◌*◌, ◌<◌, ◌≤◌, None, List, [], ◌++◌, length, map, take, drop, All, refl, sym, ◌∙◌, ap, subst, arith, length-append}
-use Rattle.std.proofs.lemmas.List.{get_or-append-add, get_or_append_left, take-append-drop}
+use Rattle.std.proofs.Common.{◌≡◌, ℕ, ◌+◌, ◌*◌, ◌<◌, ◌≤◌, if◌then◌else◌, Bool, true, false, None, List, [], ◌++◌, length, map, take, All, sym, ◌∙◌, ap, subst, arith, length-append}
+use Rattle.std.proofs.lemmas.List.{get_or-append-add, get_or_append_left}
 use Rattle.std.proofs.lemmas.Grind.{flat_map-append}
 use Rattle.air_history.specs.declared.histories.Event.{Event}
 use Rattle.air_model.specs.Aired.{air_of, history_tape, scheme_in}
 use Rattle.air_model.specs.AiredLaws.{CanAir}
-use Rattle.air_model.specs.Buckets.{entry_len, spelling}
+use Rattle.air_model.specs.Buckets.{entry_len, has_ages, most_count, spelling}
 use Rattle.air_model.specs.Decks.{Deck, IsDeck, script_history, values_in}
 use Rattle.air_model.specs.Ethers.{heard_by}
 use Rattle.air_model.specs.Judges.{by_entries}
@@ -14,14 +14,10 @@ use Rattle.air_model.specs.Sessions.{State}
 use Rattle.air_model.specs.Tapes.{TapeRead, record_bytes, tape_of, tape_read}
 use Rattle.air_model.proofs.ReceiverLemmas.{true_sessions_are}
 use Rattle.air_model.proofs.TapeLemmas.{whole_read}
-use Rattle.listeners.specs.declared.ethers.TheConstants.{MOST_TAPE_RECORDS}
-use Rattle.listeners.specs.declared.hearers.Hearers.{Hearers}
-use Rattle.listeners.specs.Hearings.{AreHearing}
-use Rattle.listeners.proofs.EtherLemmas.{room_few}
-use Rattle.listeners.proofs.ReaderLemmas.{few_records}
+use Rattle.listeners.proofs.HistoryLemmas.{begins_aired}
 use Rattle.air_sender.specs.AiredBytes.{aired_bytes}
-use Rattle.air_sender.proofs.AiredLemmas.{beginning_aired, buckets_none}
-use Rattle.air_sender.proofs.TapeLemmas.{records_short, tape_back}
+use Rattle.air_sender.proofs.AiredLemmas.{buckets_none}
+use Rattle.air_sender.proofs.TapeLemmas.{records_short}
 
 -- Two tapes one behind the other are the tape of all their records.
 pub tapes_join : (xs ys : List (List ℕ)) → tape_of (xs ++ ys) ≡ tape_of xs ++ tape_of ys
@@ -39,9 +35,8 @@ no_tape deck now none = ap tape_of (nothing_aired deck now none)
 -- What the first events of a script's history air begins what all of them air.
 pub script_begins : (deck : Deck) (now : List Event) (k : ℕ) → now ≡ take k (script_history deck) → (rest : List (List ℕ)) × (aired_bytes deck (script_history deck) ≡ aired_bytes deck now ++ rest)
 script_begins deck now k is =
-    let H = script_history deck in
-    let front = beginning_aired deck (take k H) (drop k H) in
-    (front.0, ap (aired_bytes deck) (sym (take-append-drop k H)) ∙ front.1 ∙ ap (λ G. aired_bytes deck G ++ front.0) (sym is))
+    let begun = begins_aired deck (script_history deck) k in
+    (begun.0, begun.1 ∙ ap (λ G. aired_bytes deck G ++ begun.0) (sym is))
 
 -- So does their tape.
 pub tape_begins : (deck : Deck) (now : List Event) (k : ℕ) → now ≡ take k (script_history deck) → (rest : List ℕ) × (script_tape deck ≡ history_tape (values_in deck) (air_of deck) now ++ rest)
@@ -60,19 +55,13 @@ middle P xs ys zs all = λ k d below.
 abbrev IsShort : Deck → List ℕ → Type 0
 IsShort deck r = length r ≤ 24 + entry_len deck.settings.version * length deck.items
 
--- A piece of a script's tape: it is whole, its records are those aired since, few, and none is longer than a bucket.
-pub record IsPiece (deck : Deck) (before piece : List (List ℕ)) (tape : List ℕ) : Type 0 where
-  pub read : tape_read tape ≡ record { records = piece; cut = None }
-  pub short : All (IsShort deck) piece
-  pub few : length before + length piece ≤ MOST_TAPE_RECORDS
+few_bytes : (ages : Bool) (n : ℕ) → n ≤ (if ages then 1024 else 256) → 24 + (if ages then 1 else 4) * n ≤ 1048
+few_bytes true n few = omega arith
+few_bytes false n few = omega arith
 
--- What a script's history airs is few records.
-pub few_aired : (deck : Deck) → length (script_tape deck) ≤ 1073741824 → length (aired_bytes deck (script_history deck)) ≤ 1073741824
-few_aired deck few =
-    let tape = script_tape deck in
-    let back = tape_back deck (script_history deck) tape refl few in
-    let count : length (aired_bytes deck (script_history deck)) ≤ length tape = subst (λ (t : TapeRead). length t.records ≤ length tape) back (few_records (length tape) 0 tape) in
-    omega (arith, count, few)
+-- A bucket with no more items than its version takes is short.
+room_few : (version n : ℕ) → n ≤ most_count version → 24 + entry_len version * n ≤ 1048
+room_few version n few = few_bytes (has_ages version) n few
 
 -- The tape of a piece is read as the piece, which has no record longer than a bucket.
 pub piece_read : (deck : Deck) (before now : List Event) (piece : List (List ℕ)) (tape : List ℕ) (k : ℕ) → IsDeck deck
@@ -85,35 +74,6 @@ piece_read deck before now piece tape k made is aired same =
     (subst (All (IsShort deck)) whole (records_short deck (script_history deck))) in
     let most = room_few deck.settings.version (length deck.items) made.most in
     (ap tape_read same ∙ whole_read piece (length (tape_of piece)) 0 (λ j d below. let s = short j d below in omega (arith, s, most)) (omega arith), short)
-
-pub is_piece : (deck : Deck) (before now : List Event) (piece : List (List ℕ)) (tape : List ℕ) (k : ℕ) → length (script_tape deck) ≤ 1073741824 → IsDeck deck
-    → now ≡ take k (script_history deck) → aired_bytes deck now ≡ aired_bytes deck before ++ piece → tape ≡ tape_of piece → IsPiece deck (aired_bytes deck before) piece tape
-is_piece deck before now piece tape k few made is aired same =
-    let begun = script_begins deck now k is in
-    let whole : aired_bytes deck (script_history deck) ≡ (aired_bytes deck before ++ piece) ++ begun.0 = begun.1 ∙ ap (λ l. l ++ begun.0) aired in
-    let read = piece_read deck before now piece tape k made is aired same in
-    let count = few_aired deck few in
-    record {
-      read = read.0;
-      short = read.1;
-      few = omega (arith, count, ap length whole, length-append (aired_bytes deck before ++ piece) begun.0, length-append (aired_bytes deck before) piece);
-    }
-
--- So readers can hear it.
-pub piece_whole : (deck : Deck) (before piece : List (List ℕ)) (tape : List ℕ) → IsPiece deck before piece tape → (tape_read tape).cut ≡ None
-piece_whole deck before piece tape p = ap (λ (t : TapeRead). t.cut) p.read
-
-pub piece_short : (deck : Deck) (before piece : List (List ℕ)) (tape : List ℕ) → IsPiece deck before piece tape → All (IsShort deck) (tape_read tape).records
-piece_short deck before piece tape p = subst (λ (t : TapeRead). All (IsShort deck) t.records) (sym p.read) p.short
-
-pub piece_few : (deck : Deck) (before piece : List (List ℕ)) (tape : List ℕ) → IsPiece deck before piece tape → length before + length (tape_read tape).records ≤ MOST_TAPE_RECORDS
-piece_few deck before piece tape p = subst (λ (t : TapeRead). length before + length t.records ≤ MOST_TAPE_RECORDS) (sym p.read) p.few
-
--- And then they were given all that was aired up to here.
-pub piece_heard : (deck : Deck) (before now : List Event) (piece : List (List ℕ)) (tape : List ℕ) (hearers : Hearers) → IsPiece deck (aired_bytes deck before) piece tape
-    → aired_bytes deck now ≡ aired_bytes deck before ++ piece → AreHearing deck (aired_bytes deck before ++ (tape_read tape).records) hearers → AreHearing deck (aired_bytes deck now) hearers
-piece_heard deck before now piece tape hearers p aired hearing =
-    subst (λ rs. AreHearing deck rs hearers) (ap (λ (t : TapeRead). aired_bytes deck before ++ t.records) p.read ∙ sym aired) hearing
 
 -- Their tape is that from before with the piece's behind it.
 pub piece_joins : (deck : Deck) (before now : List Event) (piece : List (List ℕ)) → aired_bytes deck now ≡ aired_bytes deck before ++ piece

@@ -1,3 +1,2 @@
 -- Definitions that private steps alone speak of: no public contract cites them.
 pub mod RunSteps
-pub mod PlaceRuns

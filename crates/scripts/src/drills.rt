@@ -21,15 +21,9 @@ use air_sender::tape_len;
 use chunk_program::Planned;
 use item_catalog::{Deck, drill_deck};
 use std::alloc::Global;
-use std::thread::Threads;
 
 /// The line of the drill of a seed and a size.
-pub fn run_drill<T: Threads + Sync>(
-    threads: &T,
-    alloc: Global,
-    seed: u64,
-    size: u32,
-) -> Result<Vec<u8>, NoMemory>
+pub fn run_drill(alloc: Global, seed: u64, size: u32) -> Result<Vec<u8>, NoMemory>
     requires some { 1 ≤ size }
     requires few { size ≤ MOST_DRILL_SIZE }
     ensures { IfOk result (λ text. text.items ≡ drill_output seed size) }
@@ -39,7 +33,7 @@ pub fn run_drill<T: Threads + Sync>(
     drill_counts_law();
     let deck = drill_deck(alloc, seed, size)?;
     let planned = plan_short(alloc, deck)?;
-    let aired = hear_script(threads, alloc, &planned)?;
+    let aired = hear_script(alloc, &planned)?;
     let text = line_of(alloc, &numbers_of(&planned, &aired))?;
     Ok(text)
 }

@@ -1,10 +1,10 @@
 //! A deck's script on the air: its events, the buckets of the cycles that they start, and the sessions of the deck's readers.
 //!
 //! `PieceRun` airs some cycles at a time (`piece_runs`), and its pieces, one after another, are what the script's whole history
-//! airs. Each cycle is aired from its board, or from the board by groups if the deck has groups (`cycle_sources`). `ScriptAiring` has the
-//! readers hear each piece (`script_airing`), and `air_script` goes through all pieces and gives each to a sink (`whole_scripts`, `sinks`).
-//! Where nobody asks for the tape, `hear_script` has the readers hear each cycle from its board, with their ethers if these aren't perfect
-//! (`place_cycles`). `run_drill` does so for the deck of a drill, and sums up what came of it (`drills`).
+//! airs. Each cycle is aired from its board, or from the board by groups if the deck has groups (`cycle_sources`), and the readers hear it from
+//! there. `ScriptAiring` airs pieces to all readers (`script_airing`), and `air_script` goes through all pieces and gives each to a sink
+//! (`whole_scripts`, `sinks`). Where nobody asks for the tape, `hear_script` has the readers hear each cycle, and nothing is aired.
+//! `run_drill` does so for the deck of a drill, and sums up what came of it (`drills`).
 #![tactic(auto)]
 
 mod cycle_sources;
@@ -12,7 +12,6 @@ mod drills;
 pub mod laws;
 mod parts;
 mod piece_runs;
-mod place_cycles;
 mod script_airing;
 mod script_beaming;
 mod sinks;

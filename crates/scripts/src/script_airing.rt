@@ -17,7 +17,7 @@ use air_sender::TapeMast;
 use chunk_program::Planned;
 use listeners::{Hearers, Sessions};
 use std::alloc::Global;
-use std::thread::Threads;
+use std::mem;
 
 /// The run of a deck's script so far, its readers, who heard all that was aired, and the mast that has the last piece of the tape.
 #[derive(Drop)]
@@ -64,14 +64,9 @@ impl ScriptAiring {
         self.mast.tape()
     }
 
-    /// Airs the next piece, up to the end of the script, and lets every reader hear it. It is kept from `new` on, until a call runs out
+    /// Airs the next piece, up to the end of the script, and lets every reader hear its cycles. It is kept from `new` on, until a call runs out
     /// of memory.
-    pub fn next_piece<T: Threads + Sync>(
-        &mut self,
-        threads: &T,
-        alloc: Global,
-        planned: &Planned,
-    ) -> Result<(), NoMemory>
+    pub fn next_piece(&mut self, alloc: Global, planned: &Planned) -> Result<(), NoMemory>
         requires few { length (script_tape planned.now) ≤ MOST_TAPE_BYTES }
         requires kept { IsAiring planned.now self.old }
         ensures kept { OnOk result (IsAiring planned.now self.new) }
@@ -81,21 +76,16 @@ impl ScriptAiring {
         ensures cycles { OnOk result (starts self.new.run.events.items ≤ starts self.old.run.events.items + self.old.cycles) }
         ensures full { OnOk result (length self.new.run.events.items < length planned.now.script → starts self.new.run.events.items ≡ starts self.old.run.events.items + self.old.cycles) }
     {
-        planned.shows_planned();
-        self.run
-            .next_piece(alloc, planned, self.cycles, &mut self.mast)?;
-        self.hearers
-            .hear(threads, alloc, planned, self.mast.tape())?;
+        let nobody = Hearers::Together(Vec::new(alloc));
+        let hearers = mem::replace(&mut self.hearers, nobody);
+        self.hearers = self
+            .run
+            .next_piece_heard(alloc, planned, self.cycles, &mut self.mast, hearers)?;
         Ok(())
     }
 
     /// The history and the sessions of all readers, once the whole script was aired.
-    pub fn end<T: Threads + Sync>(
-        self,
-        threads: &T,
-        alloc: Global,
-        planned: &Planned,
-    ) -> Result<(Vec<Event>, Sessions), NoMemory>
+    pub fn end(self, alloc: Global, planned: &Planned) -> Result<(Vec<Event>, Sessions), NoMemory>
         requires few { length (script_tape planned.now) ≤ MOST_TAPE_BYTES }
         requires kept { IsAiring planned.now self }
         requires done { self.run.events.items ≡ script_history planned.now }
@@ -105,7 +95,7 @@ impl ScriptAiring {
     {
         planned.shows_planned();
         let ScriptAiring { run, hearers, .. } = self;
-        let sessions = hearers.end(threads, alloc, planned)?;
+        let sessions = hearers.end(alloc)?;
         Ok((run.events, sessions))
     }
 }

@@ -6,7 +6,6 @@ ghost use Rattle.air_index.specs.IndexedTapes.{beam_tape_of};
 ghost use Rattle.air_model.specs.Decks.{script_history};
 ghost use Rattle.air_model.specs.Outputs.{script_tape, true_sessions};
 ghost use Rattle.air_model.specs.Reports.{counts_lines, verdict_lines};
-ghost use Rattle.listeners.specs.EtherListeners.{IsPerfect};
 ghost use Rattle.scripts.specs.Sinks.{StopsAt};
 
 use crate::piece_runs::PieceRun;
@@ -17,9 +16,8 @@ use crate::sizes::piece_cycles;
 use air_base::NoMemory;
 use air_history::Event;
 use chunk_program::Planned;
-use listeners::{PlaceHearers, Sessions, end_all, is_perfect, listeners_of};
+use listeners::{Hearers, Sessions};
 use std::alloc::Global;
-use std::thread::Threads;
 
 /// The result of a script on the air: its history, and what the sessions of the deck's readers tell.
 #[derive(Drop)]
@@ -28,10 +26,9 @@ pub struct AiredScript {
     pub sessions: Sessions,
 }
 
-/// Airs the script of a deck piece by piece: each reader hears its own ether of the tape, and the sink takes the piece. Of the tape one
-/// piece is kept, and what waits in the ethers. The last two clauses compare with the moment when nothing was taken.
-pub fn air_script<T: Threads + Sync, P, S: PieceSink<P>>(
-    threads: &T,
+/// Airs the script of a deck piece by piece: each reader hears its own ether of what is aired, and the sink takes the piece. Of the tape one
+/// piece is kept and, with ethers, the last nine buckets. The last two clauses compare with the moment when nothing was taken.
+pub fn air_script<P, S: PieceSink<P>>(
     alloc: Global,
     planned: &Planned,
     sink: &S,
@@ -47,10 +44,10 @@ pub fn air_script<T: Threads + Sync, P, S: PieceSink<P>>(
 {
     let mut aired = ScriptAiring::new(alloc, planned, piece_cycles(planned))?;
     while !aired.is_done(planned) {
-        aired.next_piece(threads, alloc, planned)?;
+        aired.next_piece(alloc, planned)?;
         sink.take(output, aired.piece())?;
     }
-    let (events, sessions) = aired.end(threads, alloc, planned)?;
+    let (events, sessions) = aired.end(alloc, planned)?;
     Ok(AiredScript { events, sessions })
 }
 
@@ -74,46 +71,8 @@ pub fn beam_script<P, S: PieceSink<P>>(
     Ok(())
 }
 
-/// Airs the script of a deck without its tape: the readers hear what is aired, and nothing else is made of it.
-pub fn hear_script<T: Threads + Sync>(
-    _threads: &T,
-    alloc: Global,
-    planned: &Planned,
-) -> Result<AiredScript, NoMemory>
-    requires { length (script_tape planned.now) ≤ MOST_TAPE_BYTES }
-    ensures events { IfOk result (λ s. s.events.items ≡ script_history planned.now) }
-    ensures verdicts { IfOk result (λ s. s.sessions.verdicts.items ≡ verdict_lines (true_sessions planned.now (script_history planned.now))) }
-    ensures counts { IfOk result (λ s. s.sessions.counts.items ≡ counts_lines (true_sessions planned.now (script_history planned.now))) }
-{
-    if is_perfect(planned.deck()) {
-        return hear_perfect_script(alloc, planned);
-    }
-    hear_given_script(alloc, planned)
-}
-
-/// The same if nothing of what is aired is lost, heard again or delayed: the readers hear it from the board.
-fn hear_perfect_script(alloc: Global, planned: &Planned) -> Result<AiredScript, NoMemory>
-    requires few { length (script_tape planned.now) ≤ MOST_TAPE_BYTES }
-    requires perfect { IsPerfect planned.now }
-    ensures events { IfOk result (λ s. s.events.items ≡ script_history planned.now) }
-    ensures verdicts { IfOk result (λ s. s.sessions.verdicts.items ≡ verdict_lines (true_sessions planned.now (script_history planned.now))) }
-    ensures counts { IfOk result (λ s. s.sessions.counts.items ≡ counts_lines (true_sessions planned.now (script_history planned.now))) }
-{
-    planned.shows_planned();
-    let mut run = PieceRun::new(alloc, planned)?;
-    let mut listeners = listeners_of(alloc, planned)?;
-    while !run.is_done(planned) {
-        listeners = run.next_heard(alloc, planned, listeners)?;
-    }
-    let sessions = end_all(alloc, listeners)?;
-    Ok(AiredScript {
-        events: run.events,
-        sessions,
-    })
-}
-
-/// The same through ethers: each reader hears what its ether gives by places, from the board of each cycle.
-fn hear_given_script(alloc: Global, planned: &Planned) -> Result<AiredScript, NoMemory>
+/// Airs the script of a deck without its tape: the readers hear each cycle from its board, and nothing else is made of it.
+pub fn hear_script(alloc: Global, planned: &Planned) -> Result<AiredScript, NoMemory>
     requires { length (script_tape planned.now) ≤ MOST_TAPE_BYTES }
     ensures events { IfOk result (λ s. s.events.items ≡ script_history planned.now) }
     ensures verdicts { IfOk result (λ s. s.sessions.verdicts.items ≡ verdict_lines (true_sessions planned.now (script_history planned.now))) }
@@ -121,9 +80,9 @@ fn hear_given_script(alloc: Global, planned: &Planned) -> Result<AiredScript, No
 {
     planned.shows_planned();
     let mut run = PieceRun::new(alloc, planned)?;
-    let mut hearers = PlaceHearers::new(alloc, planned)?;
+    let mut hearers = Hearers::new(alloc, planned)?;
     while !run.is_done(planned) {
-        hearers = run.next_given(alloc, planned, hearers)?;
+        hearers = run.next_heard(alloc, planned, hearers)?;
     }
     let sessions = hearers.end(alloc)?;
     Ok(AiredScript {

@@ -7,3 +7,5 @@ pub mod SessionLemmas
 pub mod SizeLemmas
 pub mod TapeCauses
 mod SettleExamples
+pub mod BeamLemmas
+pub mod LateLemmas

@@ -52,14 +52,19 @@ cycles_computed : Cycles
 unfolding script_history event_of last_place greatest cycle_at front is_start starts writer writer_before writes column_entry table value_after write_of body_of bucket_of capped_entries capped_body buckets_of count_of entries_of item_of kind_of spelling entry_bytes value_of cut order order_with chunk chunk_len least_common_multiple minor_cycle num_chunks num_minors program
 cycles_computed = record { history = refl; one = refl; two = refl }
 
+-- What such a run has seen after its first cycle is both starts.
+pub both_starts : (deck : Deck) (old H : List Event) → deck ≡ scripted (None ∷ None ∷ []) → old ≡ Start ∷ [] →
+    H ≡ take (length H) (script_history deck) → length H ≤ length deck.script → length old < length H → H ≡ Start ∷ Start ∷ []
+both_starts deck old H is_scripted is_old begun within more = both_of H Start Start (length H)
+    (begun ∙ ap (λ d. take (length H) (script_history d)) is_scripted ∙ ap (take (length H)) cycles_computed.history)
+    (omega (arith, within, ap (λ d. length d.script) is_scripted)) (omega (arith, more, ap length is_old))
+
 -- What such a run airs after its first cycle is the second one.
 pub second_cycle : (deck : Deck) (old H : List Event) (piece : List (List ℕ)) → deck ≡ scripted (None ∷ None ∷ []) → old ≡ Start ∷ [] →
     H ≡ take (length H) (script_history deck) → length H ≤ length deck.script → length old < length H →
     bytes_of deck H ≡ bytes_of deck old ++ piece → piece ≡ item_bytes 2 0 10 ∷ item_bytes 2 1 20 ∷ []
 second_cycle deck old H piece is_scripted is_old begun within more aired =
-    let both : H ≡ Start ∷ Start ∷ [] = both_of H Start Start (length H)
-    (begun ∙ ap (λ d. take (length H) (script_history d)) is_scripted ∙ ap (take (length H)) cycles_computed.history)
-    (omega (arith, within, ap (λ d. length d.script) is_scripted)) (omega (arith, more, ap length is_old)) in
+    let both = both_starts deck old H is_scripted is_old begun within more in
     let old_is : bytes_of deck old ≡ item_bytes 1 0 10 ∷ item_bytes 1 1 20 ∷ [] =
     ap (λ d. bytes_of d old) is_scripted ∙ ap (bytes_of (scripted (None ∷ None ∷ []))) is_old ∙ cycles_computed.one in
     let new_is : bytes_of deck H ≡ item_bytes 1 0 10 ∷ item_bytes 1 1 20 ∷ item_bytes 2 0 10 ∷ item_bytes 2 1 20 ∷ [] =

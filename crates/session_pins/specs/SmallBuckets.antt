@@ -31,3 +31,8 @@ pair_tape = 0 ∷ 0 ∷ 0 ∷ 32 ∷ item_bytes 1 0 10 ++ 0 ∷ 0 ∷ 0 ∷ 32 �
 -- The tape ends inside the length of its second record, which begins at byte 36.
 abbrev pub cut_tape : List ℕ
 cut_tape = 0 ∷ 0 ∷ 0 ∷ 32 ∷ item_bytes 1 0 10 ++ 0 ∷ 0 ∷ 0 ∷ []
+
+-- The records of a cycle of both on an indexed tape: its index, and both buckets with how many records on the next index is.
+abbrev pub beamed_cycle : ℕ → List ℕ
+beamed_cycle cycle = 0 ∷ 0 ∷ 0 ∷ 21 ∷ 0 ∷ 0 ∷ 0 ∷ 0 ∷ 0 ∷ 0 ∷ 0 ∷ 0 ∷ cycle ∷ 0 ∷ 0 ∷ 0 ∷ 2 ∷ 0 ∷ 0 ∷ 0 ∷ 1 ∷ 0 ∷ 0 ∷ 0 ∷ 2
+    ∷ 0 ∷ 0 ∷ 0 ∷ 37 ∷ 1 ∷ 0 ∷ 0 ∷ 0 ∷ 2 ∷ item_bytes cycle 0 10 ++ 0 ∷ 0 ∷ 0 ∷ 37 ∷ 1 ∷ 0 ∷ 0 ∷ 0 ∷ 1 ∷ item_bytes cycle 1 20

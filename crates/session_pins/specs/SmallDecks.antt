@@ -66,3 +66,7 @@ updated script = record pair { updates = (update_to 0 11 ∷ update_to 1 21 ∷ 
 -- The pair with groups of g items, 0 where there are none. Item 0 is written between the two cycles.
 abbrev pub grouped_pair : ℕ → Deck
 grouped_pair g = record (updated (None ∷ Some 0 ∷ None ∷ [])) { settings = record clear_air { group = g } }
+
+-- Over five cycles of two buckets the first bucket is heard eight pushes later, and the others are lost. Item 0 is written after cycle 1.
+abbrev pub late_pair : Deck
+late_pair = record (updated (None ∷ Some 0 ∷ None ∷ None ∷ None ∷ None ∷ [])) { settings = record clear_air { seed = 515; loss = 90; late = 100 } }

@@ -3,6 +3,7 @@
 
 ghost use Rattle.std.specs.Prelude.{◌≡◌, [], ◌∷◌, IfOk, Ok, OnOk};
 ghost use Rattle.air_base.specs.declared.verdicts.VerdictKind.TheVariants.{Unfinished};
+ghost use Rattle.air_history.specs.declared.histories.Event.TheVariants.{Start};
 ghost use Rattle.air_model.specs.Buckets.{Column};
 ghost use Rattle.air_model.specs.Sessions.{start};
 ghost use Rattle.air_model.specs.Tapes.{tape_read};
@@ -12,10 +13,11 @@ ghost use Rattle.session_pins.specs.SmallListeners.{accepted, asleep, listener_i
 ghost use Rattle.session_pins.specs.SmallReceivers.{counted, counts, first_query_line, heard as heard_read, holding, value_read};
 
 use air_base::NoMemory;
+use air_history::Event;
 use air_model::bucket::BucketFault;
 use bucket_codec::BucketView;
 use chunk_program::Planned;
-use listeners::{Listener, Sessions, Together, ether_sessions};
+use listeners::{Listener, Sessions, Together, history_sessions};
 use std::alloc::Global;
 use std::thread::Threads;
 
@@ -50,29 +52,28 @@ pub fn lines_of_the_first_reader(
     listener.end(alloc, before)
 }
 
-/// Each reader hears through its own ether, by its own generator (readers share one generator), and in the order of the tape (pairs heard in the
+/// Each reader hears through its own ether, by its own generator (readers share one generator), and in the order of the air (pairs heard in the
 /// other order). Out of memory, no session is answered (out of memory told as heard).
-/// Promise: readers side by side are as one after another
 /// Promise: the ether is its definition
 /// Promise: script, drill and plan print their texts
-pub fn lossy_ethers_heard_together<T: Threads + Sync>(
-    threads: &T,
+pub fn lossy_ethers_heard_together(
     alloc: Global,
     planned: &Planned,
-    tape: &[u8],
+    events: &[Event],
 ) -> Result<Sessions, NoMemory>
     requires deck { planned.now ≡ noisy }
-    requires tape { tape_read tape.now ≡ both_records }
+    requires events { events.now ≡ Start ∷ [] }
     ensures verdicts { IfOk result (λ s. s.verdicts.items ≡ first_query_line 0 Unfinished [] ∷ first_query_line 1 Unfinished (value_read 0 1 10 ∷ []) ∷ []) }
     ensures lines { IfOk result (λ s. s.counts.items ≡ counted 0 (counts 0 0 0 0 0 0) ∷ counted 1 (counts 1 1 0 0 0 0) ∷ []) }
 {
-    let sessions = ether_sessions(threads, alloc, planned, tape)?;
+    planned.shows_planned();
+    let sessions = history_sessions(alloc, planned, events)?;
     Ok(sessions)
 }
 
 /// Readers who hear a piece side by side hear all of it in its order, or one of them is out of memory (out of memory in a piece told as done).
 /// Promise: readers side by side are as one after another
-/// Promise: script, drill and plan print their texts
+/// Promise: tune prints its session
 pub fn piece_heard_in_two_orders<T: Threads + Sync>(
     readers: &mut Together,
     threads: &T,

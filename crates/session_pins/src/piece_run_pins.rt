@@ -1,17 +1,18 @@
-//! Pins of `PieceRun`: the events and the buckets of the next piece of a run.
+//! Pins of `PieceRun` and `ScriptBeaming`: the events and the buckets of the next piece of a run, and the next piece of an indexed tape.
 #![tactic(auto)]
 
 ghost use Rattle.std.specs.Prelude.{◌≡◌, [], ◌∷◌, None, OnOk, Some};
 ghost use Rattle.air_history.specs.declared.histories.Event.TheVariants.{Start};
 ghost use Rattle.air_sender.specs.TapeMasts.{told_by_tape};
+ghost use Rattle.scripts.specs.Beamings.{IsBeaming};
 ghost use Rattle.scripts.specs.PieceRuns.{IsPieceRun};
-ghost use Rattle.session_pins.specs.SmallBuckets.{two_entry_bytes, item_bytes};
+ghost use Rattle.session_pins.specs.SmallBuckets.{beamed_cycle, two_entry_bytes, item_bytes};
 ghost use Rattle.session_pins.specs.SmallDecks.{first_updater_commit, grouped_pair, scripted, update_to, updated};
 
 use air_base::NoMemory;
 use air_sender::TapeMast;
 use chunk_program::Planned;
-use scripts::PieceRun;
+use scripts::{PieceRun, ScriptBeaming};
 use std::alloc::Global;
 
 /// An updater commits its updates one after another.
@@ -96,5 +97,21 @@ pub fn own_columns_with_groups(
     ensures { OnOk result ((told_by_tape piece.new).buckets ≡ two_entry_bytes 2 0 11 1 ∷ two_entry_bytes 2 1 20 1 ∷ []) }
 {
     run.next_piece(alloc, planned, 1, piece)?;
+    Ok(())
+}
+
+/// The second piece of an indexed tape begins with the index of its own cycle, and not with that of cycle 1.
+/// Promise: a script is beamed as defined
+pub fn piece_from_cycle_1(
+    beaming: &mut ScriptBeaming,
+    alloc: Global,
+    planned: &Planned,
+) -> Result<(), NoMemory>
+    requires deck { planned.now ≡ scripted (None ∷ None ∷ []) }
+    requires kept { IsBeaming planned.now beaming.old }
+    requires events { beaming.old.run.events.items ≡ Start ∷ [] }
+    ensures { OnOk result (beaming.new.beamed.items ≡ beamed_cycle 2) }
+{
+    beaming.next_piece(alloc, planned)?;
     Ok(())
 }

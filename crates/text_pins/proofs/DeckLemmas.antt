@@ -16,8 +16,8 @@ use Rattle.item_catalog.specs.Grammar.{HasFault, IsErrorOf, Spells}
 use Rattle.item_catalog.specs.declared.faults.DeckError.{DeckError}
 use Rattle.item_catalog.specs.declared.faults.DeckError.TheVariants.{Fault, NoMemory}
 use Rattle.item_catalog.proofs.GrammarLemmas.{no_fault}
-use Rattle.text_pins.proofs.PlaceLemmas.{first_fault, first_fault_of_two, none_before_0, none_before_1, none_before_3}
-use Rattle.text_pins.specs.DeckAnswers.{IsDeckFaultOrNoMemory, committed_twice, replanned_twice, spread_over_three, three_disks, unknown_second}
+use Rattle.text_pins.proofs.PlaceLemmas.{first_fault, first_fault_of_two, none_before_0, none_before_1, none_before_3, none_before_4}
+use Rattle.text_pins.specs.DeckAnswers.{IsDeckFaultOrNoMemory, committed_twice, grouped_vectors, replanned_twice, spread_over_three, three_disks, unknown_second}
 
 -- ---- a text with a fault is answered by it
 
@@ -75,6 +75,10 @@ one_cycle = (1, refl, first_fault _ 3 1 7 (omega arith) (none_before_1 _ refl) r
 pub two_lengths : HasFault (codes "replan,2,1 2,1") 1 13
 unfolding HasFault kinds_at number_of freq_of all_some csv_on_literals
 two_lengths = (0, refl, first_fault _ 2 0 13 (omega arith) (none_before_0 _) refl)
+
+pub vectors_grouped : HasFault grouped_vectors 5 10
+unfolding HasFault kinds_at number_of freq_of csv_on_literals
+vectors_grouped = (4, refl, first_fault _ 5 4 10 (omega arith) (none_before_4 _ refl refl refl refl) refl)
 
 -- ---- a deck that is read
 

@@ -9,3 +9,4 @@ mod DeclarationExamples
 mod DrillExamples
 mod MonitorExamples
 mod TapeExamples
+mod WithinExamples

@@ -40,3 +40,10 @@ none_before_3 kinds none more last zero below = none
 none_before_3 kinds none more last (suc zero) below = more
 none_before_3 kinds none more last (suc (suc zero)) below = last
 none_before_3 kinds none more last (suc (suc (suc place))) below = absurd (omega arith)
+
+pub none_before_4 : (kinds : ℕ → List ℕ) → kinds 0 ≡ [] → kinds 1 ≡ [] → kinds 2 ≡ [] → kinds 3 ≡ [] → NoneBefore kinds 4
+none_before_4 kinds none more third last zero below = none
+none_before_4 kinds none more third last (suc zero) below = more
+none_before_4 kinds none more third last (suc (suc zero)) below = third
+none_before_4 kinds none more third last (suc (suc (suc zero))) below = last
+none_before_4 kinds none more third last (suc (suc (suc (suc place)))) below = absurd (omega arith)

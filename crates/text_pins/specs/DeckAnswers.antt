@@ -21,6 +21,10 @@ unknown_second = with_newline (codes "item,0,5,1") ++ with_newline (codes "items
 abbrev pub replanned_twice : List ℕ
 replanned_twice = with_newline (codes "replan,2,3,1") ++ with_newline (codes "replan,2,3,1")
 
+-- A deck of one item with groups, under Datacycle.
+abbrev pub grouped_vectors : List ℕ
+grouped_vectors = with_newline (codes "item,0,5,1") ++ with_newline (codes "disk,1,1") ++ with_newline (codes "set,group,1") ++ with_newline (codes "set,policy,D")
+
 -- Three items on one disk, and a replan that puts each on a disk of its own and gives no frequency; the delta is set after it.
 abbrev pub spread_over_three : List ℕ
 spread_over_three =

@@ -2,7 +2,7 @@
 //! fix the queries of a drill's deck, the updates of an updater, and what holds of every deck.
 
 ghost use Rattle.std.specs.Prelude.{◌≡◌, ◌≤◌, [], ◌∷◌, codes, get_or, length, sum_by, IfOk};
-ghost use Rattle.text_pins.specs.DeckAnswers.{IsDeckFaultOrNoMemory, committed_twice, replanned_twice, spread_over_three, three_disks, unknown_second};
+ghost use Rattle.text_pins.specs.DeckAnswers.{IsDeckFaultOrNoMemory, committed_twice, grouped_vectors, replanned_twice, spread_over_three, three_disks, unknown_second};
 ghost use Rattle.text_pins.specs.SmallWrites.{setting_first, setting_second};
 
 use air_base::NoMemory;
@@ -54,6 +54,15 @@ pub fn frequency_by_the_disks_of_the_deck(alloc: Global, bytes: &[u8]) -> Result
 pub fn greatest_kind_for_the_least(alloc: Global, bytes: &[u8]) -> Result<Deck, DeckError>
     requires { bytes.now ≡ codes "item,1,0,1000001" }
     ensures { IsDeckFaultOrNoMemory 1 3 result }
+{
+    read_deck(alloc, bytes)
+}
+
+/// A group with a policy that airs no columns is refused at the end, as a setting. If it was let through, the text would spell a deck.
+/// Promise: texts are exact
+pub fn group_under_datacycle(alloc: Global, bytes: &[u8]) -> Result<Deck, DeckError>
+    requires { bytes.now ≡ grouped_vectors }
+    ensures { IsDeckFaultOrNoMemory 5 10 result }
 {
     read_deck(alloc, bytes)
 }

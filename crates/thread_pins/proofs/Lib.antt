@@ -1,3 +1,4 @@
 mod BatchLemmas
 mod PassLemmas
 mod ReceiptLemmas
+mod GroupLemmas

@@ -1,1 +1,2 @@
 pub mod SmallBatches
+pub mod SmallGroups

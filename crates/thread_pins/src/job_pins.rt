@@ -1,30 +1,42 @@
-//! These pins of the jobs of `deck_runs` say what a job of one update, of one or two looks and of two cycles leaves.
+//! These pins of the jobs of `deck_runs` say what a job of one update, of one or two looks and of one or two cycles leaves.
 //!
 //! Other jobs may commit at the same time, so the pins say what every order of events must keep.
 #![tactic(auto, unfolding(air_model::specs::DeckLaws::made_by, air_model::specs::DeckLaws::commits_from))]
 
-ghost use Rattle.std.specs.Prelude.{◌≡◌, ◌≤◌, ◌<◌, ◌+◌, ◌^◌, ◌++◌, ℕ, List, [], ◌∷◌, length, All, Err, IfOk, OnErr, OnOk};
+ghost use Rattle.std.specs.Prelude.{◌≡◌, ◌≤◌, ◌<◌, ◌+◌, ◌^◌, ◌++◌, ℕ, List, [], ◌∷◌, length, All, Err, IfOk, OnErr, OnOk, Some};
+ghost use Rattle.air_base.specs.declared.verdicts.Policy.TheVariants.{FMatrix};
 ghost use Rattle.air_history.specs.Histories.{starts, events_in};
 ghost use Rattle.air_history.specs.UpdateRules.{UpdateFits};
 ghost use Rattle.air_history.specs.declared.histories.Event.{Event};
 ghost use Rattle.air_history.specs.declared.histories.Event.TheVariants.{Commit, Start};
 ghost use Rattle.air_model.specs.Decks.{count_made};
 ghost use Rattle.air_model.specs.DeckLaws.{made_by};
+ghost use Rattle.air_devices.specs.Masts.{nothing_sent};
 ghost use Rattle.deck_runs.specs.PublishedBatches.{AreInStep};
 ghost use Rattle.deck_runs.specs.Sendings.{CanAirIn};
 ghost use Rattle.thread_pins.specs.SmallBatches.{reads_and_sets, first_batch};
+ghost use Rattle.thread_pins.specs.SmallGroups.{pair_plans, pair_values, sent_by_group, written_between};
 
-use air_base::{Form, NoMemory};
+use air_base::{Form, NoMemory, Policy};
 use air_devices::{Gate, Mast};
 use air_history::Update;
 use air_model::reports::LookLine;
 use chunk_program::Plans;
 use control_matrix::Board;
 use cycle_snapshot::{Monitor, Publisher};
-use deck_runs::{ConductFault, conductor_job, last_look, monitor_job, updater_job};
+use deck_runs::{
+    ConductFault, conductor_job, group_conductor_job, last_look, monitor_job, updater_job,
+};
+use group_matrix::GroupBoard;
 use station::{ConductorPass, Station, UpdaterPass};
 use std::alloc::Global;
 use std::sync::Wait;
+
+/// Control columns, with their entries in full.
+const COLUMNS: Form = Form {
+    policy: Policy::FMatrix,
+    version: 1,
+};
 
 /// A first job of one update makes one commit, of this update with its read, regardless of what others commit at the same time.
 /// Promise: what the calls of a pass do
@@ -152,5 +164,37 @@ pub fn board_left_behind<R: Wait, M: Mast, G: Gate>(
 {
     conductor_job(
         wait, alloc, station, pass, publisher, board, plans, form, 2, mast, buf, gate,
+    )
+}
+
+/// By groups of two items, a commit to item 0 in cycle 1 gives both buckets of cycle 2 the entry 1: the second one has the column of the group. If each
+/// had its own column, it would have the entry 0. It also refuses groups that are filled before the cycle's events are applied: both buckets would be
+/// those of cycle 1 (groups filled after their cycle).
+/// Promise: a cycle is aired by groups
+pub fn own_columns_for_groups<R: Wait, M: Mast, G: Gate>(
+    wait: &R,
+    alloc: Global,
+    station: &Station,
+    pass: &mut ConductorPass,
+    publisher: &mut Publisher,
+    board: &mut Board,
+    groups: &mut GroupBoard,
+    plans: &Plans,
+    mast: &mut M,
+    buf: &mut [u8],
+    gate: &G,
+) -> Result<(), ConductFault>
+    requires own { pass.old.station ≡ station.now }
+    requires step { AreInStep pass.old publisher.old board.old }
+    requires seen { (pass.old.seen ≡ Start ∷ []) × (pass.old.values ≡ pair_values) }
+    requires room { publisher.old.most ≡ 2 }
+    requires plans { plans.now ≡ pair_plans }
+    requires airable { CanAirIn (record { policy = FMatrix; version = 1 }) pass.old.values plans.now (length buf.old) }
+    requires groups { (length groups.old.values ≡ 2) × (groups.old.group ≡ 2) }
+    requires unsent { (M.state mast.old).told ≡ Some nothing_sent }
+    ensures { OnOk result (pass.new.seen ≡ written_between → (M.state mast.new).told ≡ Some sent_by_group) }
+{
+    group_conductor_job(
+        wait, alloc, station, pass, publisher, board, groups, plans, COLUMNS, 1, mast, buf, gate,
     )
 }

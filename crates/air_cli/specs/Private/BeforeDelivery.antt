@@ -15,9 +15,10 @@ pub record IsMade (command : Meaning) (before now : ShelfState) (given : ReportA
   pub read : (name : List ℕ) → command.IsInput name → IsAtEnd (now.told.left name)
   pub calm : KeepsCounts before.faults now.faults
 
--- The command is refused with this status; every count is as it was, unless a read failed.
+-- The command is refused with this status and has a cause for it, or it is out of memory, which needs none. Every count is as it was, unless a read
+-- failed.
 pub record IsUnmade (command : Meaning) (before now : ShelfState) (s : Status) : Type 0 where
-  pub cause : command.Refuses before now s
+  pub cause : s ≢ status.NoMemory → command.Refuses before now s
   pub kept : s ≢ status.ReadFault → KeepsCounts before.faults now.faults
 
 -- Reading changes only what is left of the named inputs; no count of faults goes down.

@@ -33,3 +33,9 @@ IsStopped output tape before now s =
 abbrev pub DeliversPieces : Option (List ℕ) → ReportAndTape → ShelfState → ShelfState → Status → Type 0
 DeliversPieces output given before now s =
     Delivers output given before now s ⊎ ((s ≡ status.NoMemory) × HasBeginning (λ bytes. IsWritten output bytes before now) given.tape)
+
+-- How a command ends whose output is written piece by piece. Nothing else changed, and no count of faults went down.
+pub record EndsPieces (output : Option (List ℕ)) (given : ReportAndTape) (before now : ShelfState) (answer : Status) : Type 0 where
+  pub delivers : DeliversPieces output given before now answer
+  pub rest : KeepsButDelivered output before.told now.told
+  pub counts : NoCountFalls before.faults now.faults

@@ -38,7 +38,6 @@ pub(crate) fn audit<S: Shelf>(
     ensures reads { ReadsInputs (audit_meaning name.now report.now) (S.state shelf.old) (S.state shelf.new) }
 {
     let deck = read_deck_file(alloc, shelf, name)?;
-    deck.shows_well_made();
     let bytes = read_bytes(alloc, shelf, report, MOST_REPORT_BYTES)?;
     let audited = audit_read(alloc, deck, bytes)?;
     Ok(ReportAndTape {

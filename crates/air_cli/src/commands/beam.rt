@@ -2,21 +2,19 @@
 //!
 //! Each piece of the script is aired, beamed and added to the output, and no reader hears it. The line is made at the end, and then printed.
 
-ghost use Rattle.std.specs.Prelude.{◌≡◌, ◌≤◌, IfErr, IfOk, OnOk, Some, count_by, length};
+ghost use Rattle.std.specs.Prelude.{◌≡◌, IfErr, IfOk, OnOk, Some, count_by, length};
 ghost use Rattle.air_base.specs.declared.limits.TheConstants.{MOST_TAPE_BYTES};
-ghost use Rattle.air_devices.specs.Counts.{NoCountFalls};
 ghost use Rattle.air_index.specs.Indexes.{is_index};
 ghost use Rattle.air_index.specs.IndexedTapes.{beam_tape_of};
 ghost use Rattle.air_cli.specs.Answers.{Leaves, QuietAnswers};
 ghost use Rattle.air_cli.specs.Beam.{beam_given, beam_line, beam_meaning, beam_records};
-ghost use Rattle.air_cli.specs.Deliveries.{KeepsButDelivered};
 ghost use Rattle.air_cli.specs.Private.BeforeDelivery.{IsMade, IsUnmade, ReadsInputs};
-ghost use Rattle.air_cli.specs.Private.OutputPieces.{DeliversPieces, IsStopped, IsWritten};
+ghost use Rattle.air_cli.specs.Private.OutputPieces.{IsStopped, IsWritten};
 
+use crate::endings::refuse_unmade;
 use crate::files::runnable::read_runnable_deck;
 use crate::outputs::lines::line_text;
-use crate::outputs::pieces::{NamedOutput, begin_output};
-use crate::outputs::refusals::refuse;
+use crate::outputs::pieces::{NamedOutput, begin_output, print_written};
 use air_base::NoMemory;
 use air_base::limits::MOST_TAPE_BYTES;
 use air_devices::Shelf;
@@ -33,11 +31,11 @@ pub(crate) fn beam<S: Shelf>(alloc: Global, shelf: &mut S, name: &str, output: &
     ensures leaves { Leaves (beam_meaning name.now output.now) (S.state shelf.old) (S.state shelf.new) }
 {
     match read_beam(alloc, shelf, name, output) {
-        Ok(planned) => beam_and_print(alloc, shelf, output, &planned),
-        Err(status) => match status {
-            Status::NoMemory => Status::NoMemory,
-            _ => refuse(alloc, shelf, status),
-        },
+        Ok(planned) => {
+            let written = beam_to_output(alloc, shelf, output, &planned);
+            print_written(shelf, written)
+        }
+        Err(status) => refuse_unmade(alloc, shelf, status),
     }
 }
 
@@ -67,21 +65,6 @@ fn beam_len(planned: &Planned) -> u64
     let deck = planned.deck();
     let form = own_form(planned);
     beam_bytes(planned.plans(), deck.items(), deck.script_starts(), form)
-}
-
-/// Beams a deck's script to the output of this name, and then prints the line.
-fn beam_and_print<S: Shelf>(alloc: Global, shelf: &mut S, output: &str, planned: &Planned) -> Status
-    ensures delivers { DeliversPieces (Some output.now) (beam_given planned.now) (S.state shelf.old) (S.state shelf.new) result }
-    ensures rest { KeepsButDelivered (Some output.now) (S.state shelf.old).told (S.state shelf.new).told }
-    ensures counts { NoCountFalls (S.state shelf.old).faults (S.state shelf.new).faults }
-{
-    match beam_to_output(alloc, shelf, output, planned) {
-        Ok(text) => match shelf.print(&text) {
-            Ok(()) => Status::Ok,
-            Err(_) => Status::WriteFault,
-        },
-        Err(status) => status,
-    }
 }
 
 /// Beams a deck's script to the output of this name: the text of the line.
@@ -119,6 +102,5 @@ fn count_records(planned: &Planned) -> (u64, u64)
     ensures records { result.0 ≡ length (beam_records planned.now) }
     ensures indexes { result.1 ≡ count_by is_index (beam_records planned.now) }
 {
-    planned.shows_planned();
     beam_counts(planned.plans(), planned.deck().script_starts())
 }

@@ -9,23 +9,17 @@ use crate::truths::shows_drill_truth;
 use air_report::Status;
 use scripts::run_drill;
 use std::alloc::Global;
-use std::thread::Threads;
 
 /// The line of the drill of a seed and a size.
 #[tactic(auto, unfolding(crate::specs::Drill::DrillGives))]
-pub(crate) fn drill<T: Threads + Sync>(
-    threads: &T,
-    alloc: Global,
-    seed: u64,
-    size: u32,
-) -> Result<ReportAndTape, Status>
+pub(crate) fn drill(alloc: Global, seed: u64, size: u32) -> Result<ReportAndTape, Status>
     requires some { 1 ≤ size }
     requires few { size ≤ MOST_DRILL_SIZE }
     ensures gives { IfOk result (DrillGives seed size) }
     ensures refused { IfErr result (λ status. status ≡ Status.NoMemory) }
 {
     shows_drill_truth(seed, size);
-    let text = run_drill(threads, alloc, seed, size)?;
+    let text = run_drill(alloc, seed, size)?;
     Ok(ReportAndTape {
         text,
         tape: None,

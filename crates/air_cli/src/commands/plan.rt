@@ -43,7 +43,6 @@ pub(crate) fn plan<S: Shelf>(
     ensures reads { ReadsInputs (plan_meaning name.now) (S.state shelf.old) (S.state shelf.new) }
 {
     let deck = read_deck_file(alloc, shelf, name)?;
-    deck.shows_well_made();
     let text = text_of_plan(alloc, deck)?;
     Ok(ReportAndTape {
         text,

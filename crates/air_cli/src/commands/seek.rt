@@ -17,7 +17,7 @@ use std::alloc::Global;
 use std::thread::Threads;
 
 /// The line of a search on the named tape for an item, from a record on.
-#[tactic(auto, using(crate::proofs::MakeLemmas::is_unmade, crate::proofs::MakeLemmas::is_unmade_calm, crate::proofs::SeekLemmas::wanting_seek))]
+#[tactic(auto, using(crate::proofs::MakeLemmas::is_unmade, crate::proofs::MakeLemmas::wanting))]
 pub(crate) fn seek<T: Threads + Sync, S: Shelf>(
     threads: &T,
     alloc: Global,

@@ -23,7 +23,7 @@ use item_catalog::Deck;
 use std::alloc::Global;
 
 /// The text of the named deck's best split.
-#[tactic(auto, using(crate::proofs::MakeLemmas::is_unmade, crate::proofs::MakeLemmas::is_unmade_calm, crate::proofs::SplitLemmas::deck_split, crate::proofs::SplitLemmas::unsplit_split, crate::proofs::SplitLemmas::wanting_split))]
+#[tactic(auto, using(crate::proofs::MakeLemmas::is_unmade, crate::proofs::MakeLemmas::is_unmade_calm, crate::proofs::SplitLemmas::deck_split, crate::proofs::SplitLemmas::unsplit_split, crate::proofs::MakeLemmas::wanting))]
 pub(crate) fn split<S: Shelf>(
     alloc: Global,
     shelf: &mut S,
@@ -34,7 +34,6 @@ pub(crate) fn split<S: Shelf>(
     ensures reads { ReadsInputs (split_meaning name.now) (S.state shelf.old) (S.state shelf.new) }
 {
     let deck = read_deck_file(alloc, shelf, name)?;
-    deck.shows_well_made();
     let split = split_deck(alloc, &deck)?;
     let text = split_text(alloc, &deck, &split)?;
     Ok(ReportAndTape {

@@ -3,6 +3,7 @@
 ghost use Rattle.std.specs.Prelude.{IfErr, IfOk};
 ghost use Rattle.air_model.specs.Decks.{IsDeck};
 ghost use Rattle.chunk_program.specs.Plans.{AreShort};
+ghost use Rattle.item_catalog.specs.DeckLimits.{WithinLimits};
 ghost use Rattle.air_cli.specs.NamedFiles.{ReadsInput};
 ghost use Rattle.air_cli.specs.NamedDecks.{SpellsDeck};
 ghost use Rattle.air_cli.specs.RunnableDecks.{UnrunnableCause};
@@ -22,13 +23,12 @@ pub fn read_runnable_deck<S: Shelf>(
     name: &str,
 ) -> Result<Planned, Status>
     ensures deck { IfOk result (SpellsDeck name.now (S.state shelf.old)) }
-    ensures made { IfOk result IsDeck }
+    ensures made { IfOk result (λ d. IsDeck d × WithinLimits d) }
     ensures runnable { IfOk result AreShort }
     ensures refused { IfErr result (UnrunnableCause name.now (S.state shelf.old) (S.state shelf.new)) }
     ensures reads { ReadsInput name.now result (S.state shelf.old) (S.state shelf.new) }
 {
     let deck = read_deck_file(alloc, shelf, name)?;
-    deck.shows_well_made();
     let planned = plan_deck(alloc, deck)?;
     Ok(planned)
 }

@@ -1,9 +1,10 @@
 //! An output that is written piece by piece: it is begun, and then each piece is added after those before.
 
-ghost use Rattle.std.specs.Prelude.{◌≡◌, ◌++◌, [], ℕ, List, OnErr, OnOk, option_map};
+ghost use Rattle.std.specs.Prelude.{◌≡◌, ◌++◌, false, [], ℕ, List, IfErr, IfOk, OnErr, OnOk, Option, option_map};
 ghost use Rattle.air_devices.specs.Shelves.{ShelfState};
 ghost use Rattle.air_report.specs.declared.status.Status.TheVariants as status;
-ghost use Rattle.air_cli.specs.Private.OutputPieces.{IsCutOff, IsWritten};
+ghost use Rattle.air_cli.specs.Private.OutputPieces.{EndsPieces, IsCutOff, IsStopped, IsWritten};
+ghost use Rattle.air_cli.specs.ReportsAndTapes.{ReportAndTape};
 
 use air_devices::{Failed, Shelf};
 use air_report::Status;
@@ -40,6 +41,21 @@ pub fn append_piece<S: Shelf>(
     match output {
         Some(name) => shelf.append(name, piece),
         None => Ok(()),
+    }
+}
+
+/// Prints the text of a command whose output was written piece by piece. If not all of it was written, nothing is printed, and the status says why.
+pub(crate) fn print_written<S: Shelf>(shelf: &mut S, written: Result<Vec<u8>, Status>) -> Status
+    ensures { (output : Option (List ℕ)) (given : ReportAndTape) (first : ShelfState) → given.differs ≡ false →
+        IfOk written (λ text. text.items ≡ given.text) → OnOk written (IsWritten output given.tape first (S.state shelf.old)) →
+        IfErr written (IsStopped output given.tape first (S.state shelf.old)) → EndsPieces output given first (S.state shelf.new) result }
+{
+    match written {
+        Ok(text) => match shelf.print(&text) {
+            Ok(()) => Status::Ok,
+            Err(_) => Status::WriteFault,
+        },
+        Err(status) => status,
     }
 }
 

@@ -1,18 +1,18 @@
-//! The whole records at the beginning of a piece of a tape, which a hearer hears.
+//! The whole records at the beginning of a piece of a tape, which a tape hearer hears.
 
 ghost use Rattle.std.specs.Prelude.{◌≡◌, ◌<◌, ◌+◌, ◌^◌, ◌++◌, ℕ, List, IfOk, OnOk, length};
 ghost use Rattle.air_model.specs.Tapes.{tape_read};
 ghost use Rattle.air_cli.specs.Private.Pieces.{AreWholeRecords};
 
-use crate::tapes::hearers::Hearer;
+use crate::tapes::tape_hearers::TapeHearer;
 use air_base::NoMemory;
 use bucket_codec::{TapeFault, check_tape};
 use std::alloc::Global;
 use std::thread::Threads;
 
-/// Lets a hearer hear the whole records at the beginning of a piece, and returns their number of bytes. After them comes nothing, or a record that the
-/// piece's end divides.
-pub(crate) fn hear_whole_records<T: Threads + Sync, H: Hearer>(
+/// Lets a tape hearer hear the whole records at the beginning of a piece, and returns their number of bytes. After them comes nothing, or a record
+/// that the piece's end divides.
+pub(crate) fn hear_whole_records<T: Threads + Sync, H: TapeHearer>(
     threads: &T,
     alloc: Global,
     hearer: &mut H,

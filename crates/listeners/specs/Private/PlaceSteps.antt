@@ -13,7 +13,7 @@ use Rattle.air_model.specs.Ethers.{heard_by}
 use Rattle.air_model.specs.Outputs.{odds_in}
 use Rattle.air_sender.specs.BoardBuckets.{bucket_on}
 use Rattle.receiver_core.specs.Receivers.{heard_count}
-use Rattle.listeners.specs.declared.late_buckets.TheConstants.{KEPT_BUCKETS}
+use Rattle.listeners.specs.declared.last_buckets.TheConstants.{KEPT_BUCKETS}
 use Rattle.listeners.specs.declared.place_listeners.PlaceListener.{PlaceListener}
 use Rattle.listeners.specs.AiredCycles.{AreFitting}
 use Rattle.listeners.specs.Listeners.{hears, listener_of}

@@ -10,7 +10,7 @@ use Rattle.air_cli.proofs.tapes.hear_pieces.Goals as goal
 
 -- These records were heard since the hearer was as at first.
 abbrev Heard : (g : Over) → g.row.H.Denot → g.row.H.Denot → List (List ℕ) → Type 0
-Heard g before now = λ records. (first : g.row.H.Denot) → g.H.Hearer.HasHeard [] first before → g.H.Hearer.HasHeard records first now
+Heard g before now = λ records. (first : g.row.H.Denot) → g.H.TapeHearer.HasHeard [] first before → g.H.TapeHearer.HasHeard records first now
 
 pub loop-count-init : goal.loop-count-init
 loop-count-init g c =
@@ -56,7 +56,7 @@ returns-then-count-eq0-clause-heard g c = λ first was.
     let S = g.S.Shelf in
     let come = none_came c.if-count-eq0.true c.in-Ok-read.ensures.moved in
     MatchResult-weaker c.whole_or_cut.result c.whole_or_cut.ensures
-    (λ done none. whole_heard c.args.name.now (S.state c.args.shelf.now) (λ records. g.H.Hearer.HasHeard records first c.loop-count.hearer) c.loop-count.invariant.far come
+    (λ done none. whole_heard c.args.name.now (S.state c.args.shelf.now) (λ records. g.H.TapeHearer.HasHeard records first c.loop-count.hearer) c.loop-count.invariant.far come
     (sym c.as_slice.ensures ∙ none) (λ records so. so first was)) (λ s cut. tt)
 
 pub returns-then-count-eq0-clause-refused : goal.returns-then-count-eq0-clause-refused

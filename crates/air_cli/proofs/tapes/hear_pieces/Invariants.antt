@@ -8,7 +8,7 @@ use Rattle.air_cli.proofs.tapes.hear_pieces.Given as goal
 abbrev pub invariant-loop-count : goal.invariant-loop-count
 invariant-loop-count g l =
     let S = g.S.Shelf in
-    let HasHeard = g.H.Hearer.HasHeard in
+    let HasHeard = g.H.TapeHearer.HasHeard in
     record {
       far : SoFar l.sizes.tape ((S.state l.fn.shelf).told.file l.name) ((S.state l.shelf).told.left l.name) l.piece.bytes l.left
           (λ records. (first : g.row.H.Denot) → HasHeard [] first l.fn.hearer → HasHeard records first l.hearer);

@@ -11,7 +11,7 @@ use Rattle.air_sender.specs.BoardBuckets.{board_bytes}
 use Rattle.air_sender.specs.TapeMasts.{told_by_tape}
 use Rattle.air_sender.proofs.AiredLemmas.{few_full, start_aired, told_alike}
 use Rattle.chunk_program.specs.Editions.{HaveItems, Plans, edition_disks}
-use Rattle.scripts.proofs.SourceLemmas.{board_after, source_below, source_cycle, source_started, source_values}
+use Rattle.listeners.proofs.SourceLemmas.{board_after, source_below, source_cycle, source_started, source_values}
 use Rattle.scripts.proofs.cycle_sources.air_from.Goals as goal
 
 pub air_source-requires-clause-started : goal.air_source-requires-clause-started

@@ -21,11 +21,11 @@ line_told deck H verdicts counts ran judged counted =
     ∙ ap (λ n. drill_line (drill_numbers deck (script_history deck) (script_tape deck) (verdict_lines sessions) n)) counted
 
 pub plan_short-requires : goal.plan_short-requires
-plan_short-requires g c = subst AreShort (sym c.in_ok-deck.ensures) (drill_short c.args.seed c.args.size c.requires.some c.requires.few)
+plan_short-requires c = subst AreShort (sym c.in_ok-deck.ensures) (drill_short c.args.seed c.args.size c.requires.some c.requires.few)
 
 pub returns : goal.returns
 unfolding drill_output
-returns g c =
+returns c =
     let deck = c.in_ok-planned.planned in
     let aired = c.in_ok-aired.aired in
     c.in_ok-text.ensures ∙ ap drill_line c.numbers_of.ensures

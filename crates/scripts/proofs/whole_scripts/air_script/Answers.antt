@@ -58,7 +58,7 @@ returns-in_err-take-clause-stopped g c = λ first was.
     c.piece.ensures c.in_ok-next_piece.ensures.aired c.in_ok-next_piece.ensures.kept (λ rest. c.in_err-take.ensures.failed first (tape_so_far d before) rest (c.loop-aired.invariant.taken first was))
 
 pub end-requires-clause-done : goal.end-requires-clause-done
-end-requires-clause-done g c κs within = c.is_done.ensures.done.0 c.loop-aired-test.false
+end-requires-clause-done g c = c.is_done.ensures.done.0 c.loop-aired-test.false
 
 pub returns-in_err-events-clause-stopped : goal.returns-in_err-events-clause-stopped
 returns-in_err-events-clause-stopped g c = λ first was.

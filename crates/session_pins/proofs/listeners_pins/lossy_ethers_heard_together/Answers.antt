@@ -1,10 +1,23 @@
-use Rattle.std.proofs.Common.{◌∙◌}
-use Rattle.air_model.specs.Tapes.{tape_read}
-use Rattle.session_pins.proofs.SessionLemmas.{noisy_lines, noisy_verdicts}
+use Rattle.std.proofs.Common.{◌∙◌, sym, subst}
+use Rattle.air_model.specs.AiredLaws.{CanAir}
+use Rattle.air_sender.proofs.TapeLemmas.{script_airs}
+use Rattle.session_pins.proofs.SessionLemmas.{noisy_few, noisy_history, noisy_lines, noisy_verdicts, one_start}
 use Rattle.session_pins.proofs.listeners_pins.lossy_ethers_heard_together.Goals as goal
 
+pub history_sessions-requires-clause-can : goal.history_sessions-requires-clause-can
+history_sessions-requires-clause-can c =
+    let deck = c.args.planned.now in
+    let plan = c.shows_planned.ensures in
+    subst (CanAir deck) (noisy_history deck c.requires.deck ∙ sym c.requires.events) (script_airs deck plan.made plan.limits.script plan.short)
+
+pub history_sessions-requires-clause-few : goal.history_sessions-requires-clause-few
+history_sessions-requires-clause-few c = noisy_few c.args.planned.now c.args.events.now c.requires.deck c.requires.events
+
+pub history_sessions-requires-clause-cycles : goal.history_sessions-requires-clause-cycles
+history_sessions-requires-clause-cycles c = one_start c.args.events.now c.requires.events
+
 pub returns-clause-verdicts : goal.returns-clause-verdicts
-returns-clause-verdicts g c = c.in_ok-sessions.ensures.verdicts ∙ noisy_verdicts c.args.planned.now (tape_read c.args.tape.now) c.requires.deck c.requires.tape
+returns-clause-verdicts c = c.in_ok-sessions.ensures.verdicts ∙ noisy_verdicts c.args.planned.now c.args.events.now c.requires.deck c.requires.events
 
 pub returns-clause-lines : goal.returns-clause-lines
-returns-clause-lines g c = c.in_ok-sessions.ensures.counts ∙ noisy_lines c.args.planned.now (tape_read c.args.tape.now) c.requires.deck c.requires.tape
+returns-clause-lines c = c.in_ok-sessions.ensures.counts ∙ noisy_lines c.args.planned.now c.args.events.now c.requires.deck c.requires.events

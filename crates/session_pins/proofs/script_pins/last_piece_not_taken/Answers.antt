@@ -2,8 +2,8 @@ use Rattle.std.proofs.Common.{subst}
 use Rattle.session_pins.proofs.SessionLemmas.{pair_short, pair_taped}
 use Rattle.session_pins.proofs.script_pins.last_piece_not_taken.Goals as goal
 
-pub air_script-requires-after_bounds : goal.air_script-requires-after_bounds
-air_script-requires-after_bounds g c κs within = pair_short c.args.planned.now c.requires.deck
+pub air_script-requires : goal.air_script-requires
+air_script-requires g c = pair_short c.args.planned.now c.requires.deck
 
 pub returns : goal.returns
 returns g c =

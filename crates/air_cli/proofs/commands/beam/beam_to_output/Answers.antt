@@ -1,4 +1,4 @@
-use Rattle.std.proofs.Common.{List, [], ℕ, Option, Some, refl, sym, inl, rules}
+use Rattle.std.proofs.Common.{[], Some, refl, sym, inl, rules}
 use Rattle.std.proofs.lemmas.List.{append-nil}
 use Rattle.air_index.specs.IndexedTapes.{beam_tape_of}
 use Rattle.air_report.specs.declared.status.Status.TheVariants as status

@@ -2,7 +2,7 @@ use Rattle.std.proofs.Common.{◌+◌, length, sym, ap, ◌∙◌, arith}
 use Rattle.air_history.specs.Histories.{starts}
 use Rattle.air_index.specs.IndexedTapes.{minors_after, slots_after}
 use Rattle.air_index.proofs.CountLemmas.{piece_indexes, piece_records}
-use Rattle.air_model.specs.Decks.{Deck, script_history}
+use Rattle.air_model.specs.Decks.{script_history}
 use Rattle.air_sender.specs.AiredBytes.{aired_bytes}
 use Rattle.air_sender.proofs.TapeSizes.{starts_script}
 use Rattle.chunk_program.specs.Editions.{plans_in}
@@ -24,4 +24,4 @@ returns-clause-indexes c =
     let H = script_history d in
     let cycles = c.script_starts.ensures.told ∙ ap script_starts c.deck.ensures.told ∙ sym (starts_script d) in
     c.beam_counts.ensures.indexes ∙ ap (λ p. minors_after p 0 c.script_starts.result) c.plans.ensures.told ∙ ap (minors_after (plans_in d) 0) cycles
-    ∙ sym (piece_indexes d c.shows_planned.ensures.made c.shows_planned.ensures.limits c.shows_planned.ensures.short 0 (starts H) (aired_bytes d H) (omega (arith, script_starts_few d c.shows_planned.ensures.limits.script)))
+    ∙ sym (piece_indexes d c.deck.ensures.made c.deck.ensures.limits c.plans.ensures.short 0 (starts H) (aired_bytes d H) (omega (arith, script_starts_few d c.deck.ensures.limits.script)))

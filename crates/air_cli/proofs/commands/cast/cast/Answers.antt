@@ -1,6 +1,8 @@
-use Rattle.std.proofs.Common.{ap}
+use Rattle.std.proofs.Common.{ap, rules}
 use Rattle.air_cli.specs.ReportsAndTapes.{ReportAndTape}
-use Rattle.air_cli.specs.Cast.{CastGives}
+use Rattle.air_cli.specs.Cast.{CastGives, cast_meaning}
+use Rattle.air_cli.specs.Private.BeforeDelivery.{IsUnmade}
+use Rattle.air_cli.proofs.CastLemmas.{refused_cast}
 use Rattle.air_cli.proofs.MakeLemmas.{one_end}
 use Rattle.air_cli.proofs.commands.cast.cast.Goals as goal
 
@@ -10,7 +12,23 @@ returns-clause-made g c =
     let reads = c.in_ok-planned.ensures.reads in
     let given = c.in_ok-given.ensures in
     record {
-      gives = (ap (λ (g : ReportAndTape). g.differs) given.gives.1.given_is, (c.in_ok-planned.planned, c.in_ok-planned.ensures.deck, c.in_ok-planned.ensures.made, (c.in_ok-planned.ensures.runnable, given.few), given.gives));
+      gives = (ap (λ (g : ReportAndTape). g.differs) given.gives.1.given_is, (c.in_ok-planned.planned, c.in_ok-planned.ensures.deck, c.in_ok-planned.ensures.made, ((c.in_ok-planned.ensures.runnable, given.few), given.gives)));
       read = λ name same. one_end (g.S.Shelf.state c.read_runnable_deck.new.shelf) c.args.name.now name reads.end same;
       calm = reads.calm;
     }
+
+pub returns-in_err-given-clause-unmade : goal.returns-in_err-given-clause-unmade
+returns-in_err-given-clause-unmade g c =
+    let S = g.S.Shelf in
+    let name = c.args.name.now in
+    let port = c.args.port in
+    let old = g.M.Mast.state c.args.mast.now in
+    let new = g.M.Mast.state c.cast_on_air.new.mast in
+    let before = S.state c.args.shelf.now in
+    let now = S.state c.read_runnable_deck.new.shelf in
+    let planned = c.in_ok-planned.ensures in
+    let h : IsUnmade (cast_meaning name port old new) before now c.in_err-given.field-0.0 = record {
+      cause = refused_cast name port old new before now c.in_ok-planned.planned c.in_err-given.field-0.0 planned.deck planned.made planned.runnable c.in_err-given.ensures.refused;
+      kept = λ read. planned.reads.calm;
+    } in
+    search (rules, h)

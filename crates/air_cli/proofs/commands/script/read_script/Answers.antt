@@ -11,7 +11,7 @@ returns-in_err-planned-clause-unmade g c =
     let before = S.state c.args.shelf.now in
     let now = S.state c.read_runnable_deck.new.shelf in
     let h : IsUnmade (script_meaning c.args.name.now None) before now c.in_err-planned.field-0.0 = record {
-      cause = unrunnable_script c.args.name.now before now c.in_err-planned.field-0.0 c.in_err-planned.ensures.refused;
+      cause = λ some. unrunnable_script c.args.name.now before now c.in_err-planned.field-0.0 c.in_err-planned.ensures.refused;
       kept = c.in_err-planned.ensures.reads.kept;
     } in
     search (rules, h)
@@ -22,7 +22,7 @@ returns-then-bytes-clause-unmade g c =
     let S = g.S.Shelf in
     let before = S.state c.args.shelf.now in
     record {
-      cause = (
+      cause = λ some. (
         c.in_ok-planned.planned,
         c.in_ok-planned.ensures.deck,
         c.in_ok-planned.ensures.made,

@@ -12,7 +12,7 @@ returns-clause-made g c =
     let split = c.in_ok-split.split in
     let own = c.in_ok-split.ensures in
     record {
-      gives = (refl, (deck, c.in_ok-deck.ensures.deck, c.shows_well_made.ensures.made, own.few, (split.sizes, own.best.0, ap only_text c.in_ok-text.ensures)));
+      gives = (refl, (deck, c.in_ok-deck.ensures.deck, c.in_ok-deck.ensures.made, (own.few, (split.sizes, own.best.0, ap only_text c.in_ok-text.ensures))));
       read = λ name same. one_end (g.S.Shelf.state c.read_deck_file.new.shelf) c.args.name.now name reads.end same;
       calm = reads.calm;
     }

@@ -16,7 +16,7 @@ returns-in_err-planned-clause-unmade g c =
     let before = S.state c.args.shelf.now in
     let now = S.state c.read_runnable_deck.new.shelf in
     let h : IsUnmade (tune_meaning c.args.name.now c.args.tape.now) before now c.in_err-planned.field-0.0 = record {
-      cause = unrunnable_tune c.args.name.now c.args.tape.now before now c.in_err-planned.field-0.0 c.in_err-planned.ensures.refused;
+      cause = λ some. unrunnable_tune c.args.name.now c.args.tape.now before now c.in_err-planned.field-0.0 c.in_err-planned.ensures.refused;
       kept = c.in_err-planned.ensures.reads.kept;
     } in
     search (rules, h)
@@ -31,7 +31,7 @@ returns-in_err-text-clause-unmade g c =
     let can : HasDeck c.args.name.now before AreShort = (c.in_ok-planned.planned, c.in_ok-planned.ensures.deck, c.in_ok-planned.ensures.made, c.in_ok-planned.ensures.runnable) in
     let unheard = unheard_since tape MOST_TAPE_BYTES before mid now c.in_err-text.field-0.0 (c.read_runnable_deck.ensures.reads.rest.files tape) c.in_ok-planned.ensures.reads.calm c.in_err-text.ensures.refused in
     let h : IsUnmade (tune_meaning c.args.name.now tape) before now c.in_err-text.field-0.0 = record {
-      cause = unheard_tune c.args.name.now tape before now c.in_err-text.field-0.0 can unheard;
+      cause = λ some. unheard_tune c.args.name.now tape before now c.in_err-text.field-0.0 can unheard;
       kept = λ read. kept_twice before.faults mid.faults now.faults c.in_ok-planned.ensures.reads.calm (c.in_err-text.ensures.reads.kept read);
     } in
     search (rules, h)

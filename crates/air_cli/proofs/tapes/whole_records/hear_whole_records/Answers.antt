@@ -13,4 +13,4 @@ hear_piece-requires-clause-few g c =
 
 pub returns-clause-heard : goal.returns-clause-heard
 returns-clause-heard g c = λ first so_far was.
-    subst (λ (t : TapeRead). g.H.Hearer.HasHeard (so_far ++ t.records) first c.hear_piece.new.self) (read_alone c.whole_records_len-len.ensures) (c.in_ok-hear_piece.ensures first so_far was)
+    subst (λ (t : TapeRead). g.H.TapeHearer.HasHeard (so_far ++ t.records) first c.hear_piece.new.self) (read_alone c.whole_records_len-len.ensures) (c.in_ok-hear_piece.ensures first so_far was)

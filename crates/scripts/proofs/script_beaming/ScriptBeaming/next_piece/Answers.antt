@@ -1,4 +1,4 @@
-use Rattle.std.proofs.Common.{◌≡◌, ◌≤◌, ◌-◌, ℕ, List, length, sym, ap, subst, ◌∙◌, arith}
+use Rattle.std.proofs.Common.{◌≡◌, ◌≤◌, ◌-◌, length, sym, ap, subst, ◌∙◌, arith}
 use Rattle.air_history.specs.Histories.{starts}
 use Rattle.air_index.specs.IndexedTapes.{AreBuckets}
 use Rattle.air_model.specs.Decks.{Deck}

@@ -1,6 +1,0 @@
-use Rattle.air_model.specs.Tapes.{tape_read}
-use Rattle.air_cli.proofs.HearerLemmas.{seeker_heard}
-use Rattle.air_cli.proofs.tapes.hearers.SeekerHearer.hear_piece.Goals as goal
-
-pub returns : goal.returns
-returns g c = λ first so_far was rest. seeker_heard first c.args.self.now c.seek_on.new.seeker so_far (tape_read c.args.piece.now).records rest was c.seek_on.ensures

@@ -1,5 +1,0 @@
-use Rattle.std.proofs.Common.{arith}
-use Rattle.listeners.proofs.late_buckets.LateBuckets.new.Goals as goal
-
-pub invariant_of-result : goal.invariant_of-result
-invariant_of-result c = omega (arith, c.loop.invariant, c.loop-test.false, c.loop.auto.counter-end)
