@@ -1,6 +1,6 @@
 #!/usr/bin/env bash
 # How long `drill 1 40` and `drill 1 100` take, on 1, 2 and 4 processors: the whole run of the built program, from its start to
-# its end, with the deck that it makes, the script, which is aired by pieces, and the eight readers' ethers.
+# its end, with the deck that it makes, the script, which is heard without its tape, and the eight readers' ethers.
 # Usage: bench/drill.sh [RUNS]. Prints a row for each size and number of processors, with the median and the least of the runs.
 set -u
 cd "$(dirname "$0")/.." || exit 1

@@ -1,10 +1,9 @@
 #!/usr/bin/env bash
 # How long `script` and `tune` take, and how much memory, over tapes of many cycles: 256 items, the first 49 aired four times a
 # cycle, 800 updates; each compared with a plain copy of as many bytes in the same run: in memory, by cp, or by cat to a pipe. What encoding
-# costs a byte where one item of the 256 changes from cycle to cycle, and where all do; compared with copies of 4 MiB into one room.
+# costs `bench/bare.sh` measures: without a tape nothing is encoded but what readers open.
 # Usage: bench/pieces.sh [RUNS]. Prints a row for each command and number of readers (median milliseconds, the copy's, their
-# quotient), then a row for each number of items that change (milliseconds with its 1,000 cycles and with none, the bytes of the tape,
-# nanoseconds a byte of the difference and of the copies), and then the most memory at 100, 1,000 and 2,400 cycles (kilobytes, with GNU time).
+# quotient), and then the most memory at 100, 1,000 and 2,400 cycles (kilobytes, with GNU time).
 set -u
 cd "$(dirname "$0")/.." || exit 1
 runs=${1:-5}
@@ -16,47 +15,20 @@ deck() {
     { flat 256 800 "$1" "$2" | sed 's/^disk,256,1$/disk,49,4\ndisk,207,1/'; shift 2; printf '%s\n' set,seed,7 "$@"; } >"$scratch/deck.csv"
 }
 
-# changing COMMITS WRITES [START]: 1,000 cycles of these items, with this many commits before each that write this many items each; no cycle
-# is started where START isn't given. There is an ether and no reader, so that nothing is decoded
-changing() {
-    awk -v commits="$1" -v writes="$2" -v start="${3:-}" 'BEGIN {
-        for (i = 0; i < 256; i++) printf "item,%d,%d,%d\n", i, i * 1000003, 256 - i
-        printf "disk,49,4\ndisk,207,1\n"
-        for (k = 0; k < 1000 * commits; k++) {
-            printf "update,0,,"
-            for (j = 0; j < writes; j++) printf "%s%d=%d", (j ? " " : ""), (k * writes + j) % 256, k
-            printf "\n"
-        }
-        for (s = 0; s < 1000; s++) {
-            printf "script,0"
-            for (k = 1; k < commits; k++) printf " 0"
-            printf "%s\n", (start == "" ? "" : " " start)
-        }
-        print "set,loss,1"
-    }' >"$scratch/deck.csv"
-}
-
 row() { awk -v name="$1" -v a="$2" -v b="$3" 'BEGIN { printf "%-50s %10.1f %10.1f %8.2f\n", name, a, b, a / b }'; }
 middle() { times "$@" | cut -d' ' -f1; }
 report() { "$program" script "$scratch/deck.csv" "$@"; }
 
-# in_memory WAY: how many milliseconds copies of the tape take in memory: the whole at once (new), or as many as have its bytes of the
-# first 4 MiB, each into the same room (again)
+# in_memory: how many milliseconds a copy of the tape takes in memory
 in_memory() {
     python3 -c 'import sys, time
-tape, took, piece = open(sys.argv[1], "rb").read(), [], 4194304
-first, room = memoryview(tape)[:piece], memoryview(bytearray(piece))
+tape, took = open(sys.argv[1], "rb").read(), []
 for _ in range(int(sys.argv[2])):
     began = time.perf_counter()
-    if sys.argv[3] == "new":
-        copy = bytearray(tape)
-    else:
-        for _ in range(len(tape) // piece):
-            room[:] = first
-        room[:len(tape) % piece] = first[:len(tape) % piece]
+    copy = bytearray(tape)
     took.append(time.perf_counter() - began)
     copy = None
-print(1000 * sorted(took)[len(took) // 2])' "$scratch/air.tape" "$runs" "$1"
+print(1000 * sorted(took)[len(took) // 2])' "$scratch/air.tape" "$runs"
 }
 
 printf '%-50s %10s %10s %8s\n' command milliseconds copy quotient
@@ -64,7 +36,7 @@ for readers in 0 1 8 64; do
     deck 1000 "$readers"
     report "$scratch/air.tape" >/dev/null || exit 1
     copy=$(middle cp "$scratch/air.tape" "$scratch/copy.tape")
-    memory=$(in_memory new)
+    memory=$(in_memory)
     row "script, $readers readers (a copy in memory)" "$(middle report)" "$memory"
     row "script with its tape, $readers readers (cp)" "$(middle report "$scratch/out.tape")" "$copy"
     deck 1000 "$readers" "${ethers[@]}"
@@ -73,18 +45,6 @@ for readers in 0 1 8 64; do
     deck 609 "$readers"
     report "$scratch/air.tape" >/dev/null || exit 1
     row "tune of $(stat -c %s "$scratch/air.tape") bytes, $readers readers (cat)" "$(middle "$program" tune "$scratch/deck.csv" "$scratch/air.tape")" "$(middle sh -c 'cat "$1" | cat >/dev/null' - "$scratch/air.tape")"
-    rm -f "$scratch"/*.tape
-done
-
-printf '\n%-32s %12s %10s %12s %8s %8s\n' 'items that change a cycle' milliseconds uncycled bytes ns/byte copy
-for changes in '1 1' '1 16' '16 16'; do
-    read -r commits writes <<<"$changes"
-    changing "$commits" "$writes"
-    uncycled=$(middle report)
-    changing "$commits" "$writes" s
-    report "$scratch/air.tape" >/dev/null || exit 1
-    awk -v name="$((commits * writes)) of 256" -v aired="$(middle report)" -v uncycled="$uncycled" -v bytes="$(stat -c %s "$scratch/air.tape")" -v copy="$(in_memory again)" \
-        'BEGIN { printf "%-32s %12.1f %10.1f %12d %8.3f %8.3f\n", name, aired, uncycled, bytes, 1e6 * (aired - uncycled) / bytes, 1e6 * copy / bytes }'
     rm -f "$scratch"/*.tape
 done
 

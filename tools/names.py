@@ -5,8 +5,8 @@ import re
 TOP = os.path.dirname(os.path.dirname(os.path.abspath(__file__)))
 CRATES = os.path.join(TOP, "crates")
 CALLS = (("air_cli", "src/main_call.rt", "air_main"), ("air_cli", "src/quiet.rt", "air_quiet"))
-# Modules of the grammars of decks and of reports: who takes "these bytes spell this deck" as said leaves them out.
-GRAMMARS = re.compile(r"(item_catalog/specs/.*|air_report/specs/(?!Statuses\.antt).*)")
+# Modules of the grammars of decks and of reports: who takes "these bytes spell this deck" as said leaves them out. The limits of a deck are said over files that tell nothing, too.
+GRAMMARS = re.compile(r"(item_catalog/specs/(?!DeckLimits\.antt).*|air_report/specs/(?!Statuses\.antt).*)")
 
 WORDS = ("definition", "record", "data")
 
