@@ -48,7 +48,7 @@ pub record Texts : Type 0 where
   drill_text : (given : ReportAndTape) → DrillGives 2 1 given → given.text ≡ drill_output 2 1
   drill_tape : (given : ReportAndTape) → DrillGives 2 1 given → given.tape ≡ []
   drill_true : (given : ReportAndTape) → DrillGives 2 1 given → IsTrueScript (drill_deck 2 1)
-  -- a cast's report has the glances before the looks
+  -- a cast's report is the text of its run's history, glances and looks
   cast_text : (given : ReportAndTape) (run : Run) → IsCast small 7 fresh_mast (aimed all_of_ten) given run → given.text ≡ cast_output run.history run.glances run.looks
   -- a search is of item 1 from record 2 on
   searched : (given : ReportAndTape) → SeekGives (codes "t") 1 2 untold given → (bytes : List ℕ) × IsSought 1 2 given bytes

@@ -48,6 +48,9 @@ mod ListenExamples
 mod AnswerExamples
 mod HeadlineExamples
 mod StandExamples
+mod TopExamples
+mod GiftExamples
+mod LongExamples
 mod CounterExamples
 mod LimitExamples
 mod CauseExamples

@@ -1,6 +1,6 @@
 -- What the proofs of `run` need of its definitions.
 use Rattle.std.specs.Prelude.{◌<◌}
-use Rattle.std.proofs.Common.{◌≡◌, ℕ, ◌≤◌, List, false, refl, arith}
+use Rattle.std.proofs.Common.{◌≡◌, ℕ, ◌≤◌, List, refl, arith}
 use Rattle.air_base.specs.declared.limits.TheConstants.{MOST_TAPE_BYTES}
 use Rattle.air_devices.specs.Counts.{NoCountFalls}
 use Rattle.air_devices.specs.Unchanged.{KeepsButPrinted}
@@ -13,13 +13,11 @@ use Rattle.chunk_program.specs.Plans.{AreShort}
 use Rattle.air_cli.specs.NamedDecks.{DeckCause, SpellsDeck}
 use Rattle.air_cli.specs.NamedFiles.{UnreadCause}
 use Rattle.air_cli.specs.RunnableDecks.{UnrunnableCause}
-use Rattle.air_cli.proofs.CauseLemmas.{OfDeck, of_deck, of_had, where_so}
-use Rattle.air_cli.specs.ReportsAndTapes.{ReportAndTape}
-use Rattle.air_model.specs.Runs.{Run}
-use Rattle.air_cli.specs.GivenRuns.{IsGivenRun, IsRunRefusal}
+use Rattle.air_cli.proofs.CauseLemmas.{OfDeck, of_had, where_so}
+use Rattle.air_cli.specs.GivenRuns.{IsRunRefusal}
 use Rattle.deck_runs.specs.RunTapes.{run_tape_len}
 use Rattle.air_cli.specs.Answers.{NoCountRose}
-use Rattle.air_cli.specs.Run.{CanRun, RunCause, RunGives, run_meaning}
+use Rattle.air_cli.specs.Run.{CanRun, RunCause, run_meaning}
 use Rattle.air_cli.specs.ToldInputs.{TellsInputs}
 use Rattle.air_cli.proofs.InputLemmas.{CommandFacts, both, runs_fits}
 use Rattle.air_cli.proofs.RefusalLemmas.{IsSound, unrunnable_still}
@@ -74,13 +72,6 @@ run_fits deck tape before now (status.TooLong bytes) told suits calm h =
 run_fits deck tape before now s told suits calm h =
     let known = told deck refl in
     runs_fits deck before now s known.0 known.1 (can_run deck before suits) calm h
-
--- If the deck's file is told, all of it holds of the deck that the file spells.
-pub told_run : (deck : List ℕ) (before : ShelfState) (given : ReportAndTape) → RunGives deck before given
-    → (given.differs ≡ false) × OfDeck deck before (λ d. AreShort d × (run_tape_len d ≤ MOST_TAPE_BYTES) × ((run : Run) × IsGivenRun d given run))
-unfolding RunGives
-told_run deck before given (same, (d, spells, made, (can, is))) =
-    (same, of_deck deck before d (λ d. AreShort d × (run_tape_len d ≤ MOST_TAPE_BYTES) × ((run : Run) × IsGivenRun d given run)) spells (can.0, can.1, is))
 
 pub run_facts : (deck tape : List ℕ) → CommandFacts (run_meaning deck tape)
 run_facts deck tape = record { sound = run_sound deck tape; inputs = record { fits = λ before now s told suits. run_fits deck tape before now s told (of_had deck before CanRun suits) } }

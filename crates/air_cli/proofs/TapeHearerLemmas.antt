@@ -4,7 +4,6 @@ use Rattle.std.proofs.lemmas.List.{length-map, map-append}
 use Rattle.std.proofs.lemmas.List.Elements.{All-map}
 use Rattle.air_index.specs.Searches.{SeekerState, seeker_tells}
 use Rattle.air_model.specs.Buckets.{Bucket, bucket_in}
-use Rattle.air_model.specs.Tapes.{TapeRead}
 use Rattle.listeners.specs.Listeners.{Listener, hears}
 use Rattle.listeners.proofs.CountLemmas.{heard_by}
 use Rattle.listeners.proofs.HearLemmas.{counted_all, pieces}
@@ -41,9 +40,3 @@ readers_have_room first now so_far more fresh was few =
 pub seeker_heard : (first now next : SeekerState) (so_far more rest : List (List ℕ)) → ((rest : List (List ℕ)) → seeker_tells now rest ≡ seeker_tells first (so_far ++ rest))
     → ((rest : List (List ℕ)) → seeker_tells next rest ≡ seeker_tells now (more ++ rest)) → seeker_tells next rest ≡ seeker_tells first ((so_far ++ more) ++ rest)
 seeker_heard first now next so_far more rest was heard = heard rest ∙ was (more ++ rest) ∙ ap (seeker_tells first) (sym (append_assoc so_far more rest))
-
--- One record more: what it tells of those that are left.
-pub seeker_next : (first now next : SeekerState) (all left after : TapeRead) (record_ : List ℕ) (rest : List (List ℕ)) → left.records ≡ record_ ∷ after.records
-    → ((rest : List (List ℕ)) → seeker_tells now (left.records ++ rest) ≡ seeker_tells first (all.records ++ rest))
-    → ((rest : List (List ℕ)) → seeker_tells next rest ≡ seeker_tells now (record_ ∷ rest)) → seeker_tells next (after.records ++ rest) ≡ seeker_tells first (all.records ++ rest)
-seeker_next first now next all left after record_ rest split was heard = heard (after.records ++ rest) ∙ ap (λ l. seeker_tells now (l ++ rest)) (sym split) ∙ was rest

@@ -34,8 +34,8 @@ pub record IsBrokenCast (d : Deck) (to at : ℕ) (before now : MastState) : Type
   pub sent : IsCastBeginning d at before.told now.told
   pub port : now.port ≡ Some to
 
--- The first buckets of a whole history of the deck were sent to the port, maybe none or all, and after all maybe the end. If the end was sent, no
--- failure of the mast was counted.
+-- The first buckets of a whole history of the deck were sent to the port, maybe none or all, and after all maybe the end. If the mast tells that the
+-- end was sent, no failure of it was counted.
 pub record HasSent (d : Deck) (to : ℕ) (before now : MastState) : Type 0 where
   pub sent : ((count : ℕ) × IsCastBeginning d count before.told now.told)
       ⊎ ((H : List Event) × IsWhole d H × Changes (λ _. all_sent (aired_bytes d H)) before.told now.told × (now.faults ≡ before.faults))

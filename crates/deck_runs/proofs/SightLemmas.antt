@@ -1,5 +1,5 @@
 -- What monitors saw of a run whose cycles were all published.
-use Rattle.std.proofs.Common.{◌≡◌, ℕ, ◌<◌, Some, None, Option, List, [], ◌∷◌, ◌++◌, length, get_or, map, All, inl, inr, refl, sym, ap, ◌∙◌, subst, arith, append_assoc, length-append}
+use Rattle.std.proofs.Common.{◌≡◌, ℕ, ◌<◌, Some, None, Option, List, [], ◌∷◌, ◌++◌, length, get_or, map, All, inl, inr, sym, ap, ◌∙◌, subst, arith, append_assoc, length-append}
 use Rattle.std.specs.List.{range_with_len}
 use Rattle.std.proofs.lemmas.Bool.{cases_lt}
 use Rattle.std.proofs.lemmas.List.{ext_get_or, get_or_append_left, get_or-map, get_or_push, length-map}
@@ -126,9 +126,6 @@ module _ (deck : Deck) (f g : PublisherState) (runs now : List MonitorRun) (glan
   }
 
 -- ---- one line more of each
-
-pub no_sights : (f : PublisherState) → AreAllSights f [] [] []
-no_sights f = record { glance_count = refl; look_count = refl; each = λ k run line l. absurd (omega arith) }
 
 pub sights_more : (f : PublisherState) (runs : List MonitorRun) (glances looks : List LookLine) (run : MonitorRun) (glance look : LookLine) → AreAllSights f runs glances looks → AreSights f (length runs) run glance look
     → AreAllSights f (runs ++ run ∷ []) (glances ++ glance ∷ []) (looks ++ look ∷ [])

@@ -3,3 +3,5 @@ pub mod ReadLemmas
 pub mod ReplayLemmas
 pub mod FarLemmas
 pub mod AuditLemmas
+mod LineExamples
+mod TooMuchExamples

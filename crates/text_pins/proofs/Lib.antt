@@ -7,6 +7,7 @@ mod BucketExamples
 mod DeckExamples
 mod DeclarationExamples
 mod DrillExamples
+mod LegalExamples
 mod MonitorExamples
 mod TapeExamples
 mod WithinExamples
