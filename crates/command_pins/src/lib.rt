@@ -13,3 +13,4 @@ pub mod headline_pins;
 pub mod main_pins;
 pub mod on_air_pins;
 pub mod output_pins;
+pub mod touch_pins;

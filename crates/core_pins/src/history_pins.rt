@@ -29,6 +29,7 @@ pub fn base_read_after_write(event: &Event, values: &mut [u64])
 
 /// A commit also descends from the writers of what its writers read.
 /// Promise: scans and kernels are their definitions
+/// Promise: the board steps with the history
 pub fn direct_writers_only(alloc: Global, history: &History) -> Result<Vec<bool>, NoMemory>
     requires { history.now ≡ chain }
     ensures { IfOk result (λ marks. marks.items ≡ false ∷ true ∷ true ∷ true ∷ false ∷ []) }

@@ -5,12 +5,10 @@
 //! thread, and `workers` has monitors that look while a publisher publishes.
 #![tactic(auto)]
 
+#[cfg(test)]
 mod batches;
+#[cfg(test)]
 mod lasts;
-
-pub use batches::publish_all;
-pub use lasts::{last_look, last_looks};
-
 #[cfg(test)]
 mod looks;
 #[cfg(test)]

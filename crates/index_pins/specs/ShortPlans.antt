@@ -17,18 +17,18 @@ short_edition disks = record { edition = 0; disks = disks }
 
 -- Two items on one disk.
 abbrev pub two_items : Plans
-two_items = record { replans = []; programs = short_edition (short_disk (0 ∷ 1 ∷ []) 1 ∷ []) ∷ []; pix = [] }
+two_items = record { replans = []; programs = short_edition (short_disk (0 ∷ 1 ∷ []) 1 ∷ []) ∷ []; pix = (2 ∷ 1 ∷ []) ∷ [] }
 
 -- Two items on two disks, of which the first is aired twice a cycle.
 abbrev pub two_disks : Plans
-two_disks = record { replans = []; programs = short_edition (short_disk (0 ∷ []) 2 ∷ short_disk (1 ∷ []) 1 ∷ []) ∷ []; pix = [] }
+two_disks = record { replans = []; programs = short_edition (short_disk (0 ∷ []) 2 ∷ short_disk (1 ∷ []) 1 ∷ []) ∷ []; pix = (2 ∷ 2 ∷ []) ∷ [] }
 
 -- Three items, whose program changes in cycle 2: items 0 and 2 change their disks.
 abbrev pub two_editions : Plans
 two_editions = record {
   replans = 2 ∷ [];
   programs = short_edition (short_disk (0 ∷ []) 2 ∷ short_disk (1 ∷ 2 ∷ []) 1 ∷ []) ∷ short_edition (short_disk (0 ∷ 1 ∷ []) 1 ∷ short_disk (2 ∷ []) 2 ∷ []) ∷ [];
-  pix = [];
+  pix = (3 ∷ 4 ∷ 2 ∷ []) ∷ (6 ∷ 4 ∷ 1 ∷ []) ∷ [];
 }
 
 -- A whole tape of these records.

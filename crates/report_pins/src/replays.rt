@@ -14,7 +14,7 @@ use std::alloc::Global;
 
 /// Reads of two commits agree. It also refuses:
 /// In row 7, that an item that isn't written is 0, and that a write counts in its own cycle.
-/// In row 8, that values alone are replayed, since its abort is of a read that passes.
+/// In row 8, that values alone are replayed, and that the printed verdict is repeated (parrot audit), since its abort is of a read that passes.
 /// In row 9, that the verdict is answered before the value.
 /// In row 10, that a look is judged a cycle early.
 /// Promise: the audit is its definition

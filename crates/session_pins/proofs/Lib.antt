@@ -9,3 +9,4 @@ pub mod TapeCauses
 mod SettleExamples
 pub mod BeamLemmas
 pub mod LateLemmas
+pub mod CopyLemmas

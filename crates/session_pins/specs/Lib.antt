@@ -5,3 +5,4 @@ pub mod SmallListeners
 pub mod AgedReceivers
 pub mod EditionReceivers
 pub mod Refusals
+pub mod KeptCopies

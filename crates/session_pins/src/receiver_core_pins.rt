@@ -8,6 +8,7 @@ ghost use Rattle.air_model.specs.Buckets.{Column, Vector};
 ghost use Rattle.air_model.specs.Sessions.{start};
 ghost use Rattle.chunk_program.specs.Editions.{plans_in};
 ghost use Rattle.session_pins.specs.EditionReceivers.{accepted_by_one, asking, changed_bucket, keeping_one};
+ghost use Rattle.session_pins.specs.KeptCopies.{keeping_both};
 ghost use Rattle.session_pins.specs.SmallBuckets.{bucket};
 ghost use Rattle.session_pins.specs.SmallDecks.{tiered};
 ghost use Rattle.session_pins.specs.SmallReceivers.{air_by, asker_in, counts, heard as heard_read, holding, session_line, value_read};
@@ -17,7 +18,7 @@ use air_model::bucket::BucketFault;
 use bucket_codec::BucketView;
 use chunk_program::Plans;
 use item_catalog::Deck;
-use receiver_core::{Fed, Receiver};
+use receiver_core::{Fed, Receiver, Step};
 use std::alloc::Global;
 
 /// What is no bucket is refused with its own fault, and changes only that count (refused bucket moves now).
@@ -89,6 +90,16 @@ pub fn offer_left_out_after_an_abort(
     ensures last { receiver.new.last ≡ value_read 0 1 10 ∷ [] }
 {
     receiver.hear(heard)
+}
+
+/// A kept copy that clashes with a held read is dropped, and the attempt waits for its item on the air: no verdict is given (abort on a kept copy).
+/// Promise: the receiver steps as its session
+pub fn abort_on_kept_copy(receiver: &mut Receiver) -> Step
+    requires { receiver.old ≡ keeping_both }
+    ensures step { result ≡ Step.Waiting }
+    ensures state { receiver.new.state ≡ record keeping_both.state { copies = heard_read 0 1 10 (0 ∷ 0 ∷ []) ∷ [] } }
+{
+    receiver.step()
 }
 
 /// Each bucket that is slept through is counted as dozed, and the newest of their cycles is the newest heard one (time stops while dozing).

@@ -2,3 +2,4 @@ mod BatchLemmas
 mod PassLemmas
 mod ReceiptLemmas
 mod GroupLemmas
+mod HotLemmas

@@ -1,2 +1,3 @@
 pub mod SmallBatches
 pub mod SmallGroups
+pub mod HotItem

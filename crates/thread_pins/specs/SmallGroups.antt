@@ -12,7 +12,7 @@ pair_values = 10 ∷ 20 ∷ []
 
 -- Both items on one disk: the slots of a cycle are 0, 1.
 abbrev pub pair_plans : Plans
-pair_plans = record { replans = []; programs = record { edition = 0; disks = record { items = 0 ∷ 1 ∷ []; freq = 1 } ∷ [] } ∷ []; pix = [] }
+pair_plans = record { replans = []; programs = record { edition = 0; disks = record { items = 0 ∷ 1 ∷ []; freq = 1 } ∷ [] } ∷ []; pix = (2 ∷ 1 ∷ []) ∷ [] }
 
 -- Item 0 is set to 11 in cycle 1.
 abbrev pub written_between : List Event

@@ -14,6 +14,7 @@ ghost use Rattle.air_model.specs.DeckLaws.{made_by};
 ghost use Rattle.air_devices.specs.Masts.{nothing_sent};
 ghost use Rattle.deck_runs.specs.PublishedBatches.{AreInStep};
 ghost use Rattle.deck_runs.specs.Sendings.{CanAirIn};
+ghost use Rattle.thread_pins.specs.HotItem.{hot_plans, sent_in_two_cycles};
 ghost use Rattle.thread_pins.specs.SmallBatches.{reads_and_sets, first_batch};
 ghost use Rattle.thread_pins.specs.SmallGroups.{pair_plans, pair_values, sent_by_group, written_between};
 
@@ -164,6 +165,36 @@ pub fn board_left_behind<R: Wait, M: Mast, G: Gate>(
 {
     conductor_job(
         wait, alloc, station, pass, publisher, board, plans, form, 2, mast, buf, gate,
+    )
+}
+
+/// A first job of two cycles, with a commit to item 0 after the first: item 0 has its first value in both of its slots of cycle 1, and what was written
+/// in both of cycle 2. It also refuses values of now: cycle 1 has none of what is committed after its start, and cycle 2 has all of what is committed
+/// before its own.
+/// Promise: the conductor airs the history
+pub fn newer_frame_in_cycle<R: Wait, M: Mast, G: Gate>(
+    wait: &R,
+    alloc: Global,
+    station: &Station,
+    pass: &mut ConductorPass,
+    publisher: &mut Publisher,
+    board: &mut Board,
+    plans: &Plans,
+    mast: &mut M,
+    buf: &mut [u8],
+    gate: &G,
+) -> Result<(), ConductFault>
+    requires own { pass.old.station ≡ station.now }
+    requires step { AreInStep pass.old publisher.old board.old }
+    requires new { (pass.old.seen ≡ []) × (pass.old.values ≡ pair_values) }
+    requires room { publisher.old.most ≡ 2 }
+    requires plans { plans.now ≡ hot_plans }
+    requires airable { CanAirIn (record { policy = FMatrix; version = 1 }) pass.old.values plans.now (length buf.old) }
+    requires unsent { (M.state mast.old).told ≡ Some nothing_sent }
+    ensures { OnOk result (pass.new.seen ≡ written_between → (M.state mast.new).told ≡ Some sent_in_two_cycles) }
+{
+    conductor_job(
+        wait, alloc, station, pass, publisher, board, plans, COLUMNS, 2, mast, buf, gate,
     )
 }
 

@@ -12,7 +12,7 @@ use std::alloc::Global;
 use std::sync::Wait;
 
 /// A monitor that has seen two batches keeps their cycle, values, columns and total: the frame of all their events. It also refuses
-/// one column for all items, and a list that was seen but isn't kept.
+/// one column for all items, a list that was seen but isn't kept, and a look that shows both batches but keeps the opening frame (frozen look).
 /// Promise: a look is a published prefix
 pub fn frame_of_half_a_batch(monitor: &mut Monitor) -> Result<(), NoMemory>
     requires { monitor.old.values ≡ first_values }

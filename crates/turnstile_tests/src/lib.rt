@@ -6,12 +6,12 @@
 #![tactic(auto)]
 
 mod pairs;
-mod rounds;
 mod workers;
 
 pub use pairs::Pairs;
-pub use rounds::{finish, hire, play, work_all};
 pub use workers::{Turns, Worker, add, fill, go_through};
 
+#[cfg(test)]
+mod rounds;
 #[cfg(test)]
 mod tests;
