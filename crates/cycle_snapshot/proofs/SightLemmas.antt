@@ -52,11 +52,11 @@ admits x views h = (h.0, λ j u e. ⊎_elim (h.1 j u) (λ (t : None ≡ u). subs
 agree_set : (x : BoardSide) (views : List (Option BoardSide)) (seat : ℕ) (w : Option BoardSide) → ((j : ℕ) (v : Option BoardSide) → get_elem? views j ≡ some v → Agrees v x) → Agrees w x → (j : ℕ) (v : Option BoardSide) → get_elem? (set views seat w) j ≡ some v → Agrees v x
 agree_set x views seat w h a j u e = ⊎_elim (λ (t : (j ≡ seat) × (w ≡ u)). subst (λ z. Agrees z x) t.1 a) (λ (t : (j ≢ seat) × (get_elem? views j ≡ some u)). h j u t.1) (at_set views seat j w u e)
 
--- A seat may note what it saw.
+-- A seat may tell what it saw.
 pub forks : (seat : ℕ) (v : Option BoardSide) → Forks Keeps seat v v v
 forks seat v x views h at = let a = h.1 seat v at in (h.0, λ j u e. ⊎_elim (agree_set x views seat v h.1 a j u) (λ (t : v ≡ u). subst (λ z. Agrees z x) t a) (at_snoc (set views seat v) v u j e))
 
--- A seat takes over a note.
+-- A seat takes over what it was told.
 pub merges : (seat : ℕ) (v : Option BoardSide) (other : ℕ) (w : Option BoardSide) → Merges Keeps seat v other w w None
 merges seat v other w x views h at apart there = let a = ⊎_elim (λ (t : (other ≡ seat) × (w ≡ w)). absurd (apart t.0)) (λ (t : (other ≢ seat) × (get_elem? views other ≡ some w)). h.1 other w t.1) (at_set views seat other w w there) in
     (h.0, agree_set x (set views seat w) other None (agree_set x views seat w h.1 a) tt)

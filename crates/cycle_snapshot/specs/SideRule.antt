@@ -39,10 +39,10 @@ Keeps x views = IsPublished x × ((seat : ℕ) (v : Option BoardSide) → get_el
 abbrev pub Sees : Option BoardSide → BoardSide → BoardSide → Option BoardSide → Type 0
 Sees v x y w = (w ≡ Some y) × Agrees v y × IsPublished y
 
--- The frame of the side y was copied. The side's list continues the note, and that list was given.
-pub record HasCopied (y : BoardSide) (note : Beginning) (frame : Frame) (given : Beginning) : Type 0 where
+-- The frame of the side y was copied. The side's list continues the list before, and was given.
+pub record HasCopied (y : BoardSide) (before : Beginning) (frame : Frame) (given : Beginning) : Type 0 where
   pub shown : IsPublished y
-  pub told : IsPrefix note.batches y.list.batches
+  pub told : IsPrefix before.batches y.list.batches
   pub kept : frame ≡ frame_of y.values (events_in y.list.batches)
   pub list : given ≡ y.list
 

@@ -85,7 +85,7 @@ impl Publisher {
         }
     }
 
-    /// A note of the published list; any number of notes may be made.
+    /// A told note of the published list; any number of them may be made.
     pub fn tell(&self) -> Told
         ensures { result ≡ published_list self.now }
     {

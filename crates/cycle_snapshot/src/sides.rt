@@ -36,7 +36,7 @@ pub fn open_reader(writer: &mut SideWriter) -> Result<SideReader, NoMemory>
     ensures reader { IfOk result (λ r. view r.place ≡ view writer.old.desk.place) }
 {
     let mut reader = writer.factory().reader()?;
-    let note = writer.tell::<TellRule>();
-    reader.learn::<TellRule>(note);
+    let told = writer.tell::<TellRule>();
+    reader.learn::<TellRule>(told);
     Ok(reader)
 }

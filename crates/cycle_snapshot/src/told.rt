@@ -58,7 +58,7 @@ impl Plain<Batch, Batch, u64> for Add {
 /// The word that counts the batches. Its owner adds to the list.
 pub type ListHead = Word<Batch, u64, BookRule>;
 
-/// A note of a beginning of the list that one publisher publishes. Contracts see the publisher's identity and the batches.
+/// A told note of a beginning of the list that one publisher publishes. Contracts see the publisher's identity and the batches.
 #[derive(Drop)]
 pub struct Told {
     count: u64,
@@ -92,7 +92,7 @@ impl Told {
         self.count
     }
 
-    /// An equal note.
+    /// An equal told note.
     pub(crate) fn again(&self) -> Told
         ensures { result ≡ self.now }
     {

@@ -24,12 +24,12 @@ use std::marker::Model;
 use std::sync::Wait;
 use std::thread::Threads;
 
-/// A run's history; the last note of its publisher, which tells all batches that the conductor published; and what the monitors saw: for each the
+/// A run's history; the last told note of its publisher, which tells all batches that the conductor published; and what the monitors saw: for each the
 /// last look of its job, and one more look at the end.
 #[derive(Drop)]
 pub struct Run {
     pub history: History,
-    pub last_note: Told,
+    pub last_told: Told,
     pub glances: Vec<LookLine>,
     pub looks: Vec<LookLine>,
 }
@@ -39,18 +39,18 @@ impl Model for Run {
 
     ghost Value = { Run };
 
-    ghost view = { λ r. record { history = r.history; batches = r.last_note.batches; glances = r.glances.items; looks = r.looks.items } };
+    ghost view = { λ r. record { history = r.history; batches = r.last_told.batches; glances = r.glances.items; looks = r.looks.items } };
 }
 
 impl Run {
-    /// The run with this history, this last note of its publisher, and what its monitors saw.
-    fn new(history: History, last_note: Told, sights: Sights) -> Run
-        ensures { result ≡ record { history = history; batches = last_note.batches; glances = sights.glances.items; looks = sights.looks.items } }
+    /// The run with this history, this last told note of its publisher, and what its monitors saw.
+    fn new(history: History, last_told: Told, sights: Sights) -> Run
+        ensures { result ≡ record { history = history; batches = last_told.batches; glances = sights.glances.items; looks = sights.looks.items } }
     {
         let Sights { glances, looks } = sights;
         Run {
             history,
-            last_note,
+            last_told,
             glances,
             looks,
         }
@@ -92,7 +92,7 @@ impl From<ConductFault> for RunFault {
 }
 
 /// Runs the deck on threads: its conductor, all its updaters and its monitors at the same time. The history is whole, the batches in the publisher's
-/// last note air it, the mast was sent exactly its buckets, and each monitor saw it. If the mast failed, it was sent the first `sent` buckets of a
+/// last told note air it, the mast was sent exactly its buckets, and each monitor saw it. If the mast failed, it was sent the first `sent` buckets of a
 /// whole history; after `NoMemory` the first ones, maybe none.
 pub fn run_threads<R: Threads + Wait + Sync, M: Mast + Send, G: Gate + Sync>(
     rt: &R,
@@ -112,11 +112,11 @@ pub fn run_threads<R: Threads + Wait + Sync, M: Mast + Send, G: Gate + Sync>(
     let (mut source, mut watchers) = open_publisher(rt, alloc, stage.planned)?;
     let conducted = stage.play(rt, alloc, &mut source, &mut watchers, mast, gate);
     let sights = all_sights(alloc, &source, watchers);
-    let last_note = source.tell();
+    let last_told = source.tell();
     source.close(rt);
     let history = stage.end();
     conducted?;
     let history = history?;
     let sights = sights?;
-    Ok(Run::new(history, last_note, sights))
+    Ok(Run::new(history, last_told, sights))
 }

@@ -52,7 +52,7 @@ pub slept_none : (on : ℕ → Option Bucket) (s k : ℕ) (l : Listener) → k �
 unfolding hears
 slept_none on s k l none = ap (λ n. hears (map on (range_with_len s n)) l) (let same : 0 ≡ s + k - s = omega arith in same)
 
-module _ (form : Form) (e : ℕ) (slots : List (Option ℕ)) (board : Board) (first : ℕ) (late : List (List ℕ)) (member : ℕ → Option Bucket) (members : AreMembers form e slots board first late member) where
+module _ (form : Form) (e : ℕ) (slots : List (Option ℕ)) (board : Board) (first : ℕ) (recent : List (List ℕ)) (member : ℕ → Option Bucket) (members : AreMembers form e slots board first recent member) where
   abbrev on : ℕ → Bucket
   on s = bucket_on form e slots board s
 

@@ -26,7 +26,7 @@ use Rattle.listeners.specs.declared.place_hearers.PlaceHearers.{PlaceHearers}
 use Rattle.listeners.specs.declared.place_listeners.PlaceListener.{PlaceListener}
 use Rattle.listeners.specs.AiredCycles.{AreFitting}
 use Rattle.listeners.specs.Listeners.{Listener, hears, listener_of}
-use Rattle.listeners.specs.PlaceListeners.{AreGivenEach, AreGivenPlaces, AreLate, IsPlaceListener, given_at, places_for, pushed_at}
+use Rattle.listeners.specs.PlaceListeners.{AreGivenEach, AreGivenPlaces, AreRecent, IsPlaceListener, given_at, places_for, pushed_at}
 use Rattle.listeners.specs.Private.PlaceSteps.{AllEndedPlaces, AllHearPlaces, AreKeptFrom, AreMembers, CanHearPlaces, HearsPlaces, places_to}
 use Rattle.listeners.proofs.PlaceLemmas.{same_range}
 use Rattle.listeners.proofs.RunLemmas.{ethers_in, readers_over}
@@ -86,18 +86,18 @@ slot_record form e slots board s l =
     ∙ ap spelling (get_or-map-range_with_len on 0 (length slots) s s (on s) l (omega arith))
 
 -- One more of the last buckets is kept.
-pub kept_more : (late now : List (List ℕ)) (first slot n : ℕ) (all : List (List ℕ)) → slot < n → length late ≡ 9
-    → ((p : ℕ) → p < first + slot → first + n ≤ p + 9 → get_or late (p % 9) [] ≡ slice_index_or all p []) → now ≡ set late ((first + slot) % 9) (slice_index_or all (first + slot) [])
+pub kept_more : (recent now : List (List ℕ)) (first slot n : ℕ) (all : List (List ℕ)) → slot < n → length recent ≡ 9
+    → ((p : ℕ) → p < first + slot → first + n ≤ p + 9 → get_or recent (p % 9) [] ≡ slice_index_or all p []) → now ≡ set recent ((first + slot) % 9) (slice_index_or all (first + slot) [])
     → (length now ≡ 9) × ((p : ℕ) → p < first + (slot + 1) → first + n ≤ p + 9 → get_or now (p % 9) [] ≡ slice_index_or all p [])
-kept_more late now first slot n all within nine kept is = (
-  ap length is ∙ length-set late ((first + slot) % 9) (slice_index_or all (first + slot) []) ∙ nine,
-  λ p l near. ap (λ xs. get_or xs (p % 9) []) is ∙ elim (cases_lt p (first + slot)) as (λ _. get_or (set late ((first + slot) % 9) (slice_index_or all (first + slot) [])) (p % 9) [] ≡ slice_index_or all p []) [
-    | inl less ↦ get_or-set_other late ((first + slot) % 9) (p % 9) (slice_index_or all (first + slot) []) [] (λ same. absurd (omega arith)) ∙ kept p less near
+kept_more recent now first slot n all within nine kept is = (
+  ap length is ∙ length-set recent ((first + slot) % 9) (slice_index_or all (first + slot) []) ∙ nine,
+  λ p l near. ap (λ xs. get_or xs (p % 9) []) is ∙ elim (cases_lt p (first + slot)) as (λ _. get_or (set recent ((first + slot) % 9) (slice_index_or all (first + slot) [])) (p % 9) [] ≡ slice_index_or all p []) [
+    | inl less ↦ get_or-set_other recent ((first + slot) % 9) (p % 9) (slice_index_or all (first + slot) []) [] (λ same. absurd (omega arith)) ∙ kept p less near
     | inr past ↦
         let same : first + slot ≡ p = omega arith in
         let small : (first + slot) % 9 < 9 = mod-lt (first + slot) (omega arith) in
-        subst (λ q. get_or (set late ((first + slot) % 9) (slice_index_or all (first + slot) [])) (q % 9) [] ≡ slice_index_or all q []) same
-        (get_or-set_same late ((first + slot) % 9) (slice_index_or all (first + slot) []) [] (omega arith))
+        subst (λ q. get_or (set recent ((first + slot) % 9) (slice_index_or all (first + slot) [])) (q % 9) [] ≡ slice_index_or all q []) same
+        (get_or-set_same recent ((first + slot) % 9) (slice_index_or all (first + slot) []) [] (omega arith))
   ],
 )
 
@@ -106,8 +106,8 @@ module _ (form : Form) (e : ℕ) (slots : List (Option ℕ)) (board : Board) (de
   records = board_bytes form e slots board
 
   -- The members of the places of a cycle that is pushed.
-  pub cycle_members : (pushed late : List (List ℕ)) (first : ℕ) → first ≡ length pushed → AreLate pushed late → AreMembers form e slots board first late (pushed_at (pushed ++ records))
-  cycle_members pushed late first is kept = record {
+  pub cycle_members : (pushed recent : List (List ℕ)) (first : ℕ) → first ≡ length pushed → AreRecent pushed recent → AreMembers form e slots board first recent (pushed_at (pushed ++ records))
+  cycle_members pushed recent first is kept = record {
     here = λ s l.
         let own : first + s - length pushed ≡ s = omega arith in
         ap bucket_in (get_or-append_right pushed records (length pushed) (first + s) [] refl (omega arith) ∙ ap (λ k. get_or records k []) own ∙ slot_record form e slots board s l) ∙ decodes s l;
@@ -115,14 +115,14 @@ module _ (form : Form) (e : ℕ) (slots : List (Option ℕ)) (board : Board) (de
   }
 
   -- A reader that heard what its ether gives of the cycle was given the cycle's records too.
-  pub cycle_given : (deck : Deck) (number : ℕ) (pushed late : List (List ℕ)) (first : ℕ) (before now : PlaceListener) → first ≡ length pushed → AreLate pushed late → IsPlaceListener deck number pushed before
-      → HearsPlaces form e slots board first late before now → IsPlaceListener deck number (pushed ++ records) now
-  cycle_given deck number pushed late first before now is kept own hears_it =
+  pub cycle_given : (deck : Deck) (number : ℕ) (pushed recent : List (List ℕ)) (first : ℕ) (before now : PlaceListener) → first ≡ length pushed → AreRecent pushed recent → IsPlaceListener deck number pushed before
+      → HearsPlaces form e slots board first recent before now → IsPlaceListener deck number (pushed ++ records) now
+  cycle_given deck number pushed recent first before now is kept own hears_it =
       let seed = deck.settings.seed in
       let all = pushed ++ records in
       let g = length (places_for deck number pushed false) in
       let long : length all ≡ first + length slots = length-append pushed records ∙ ap (λ n. length pushed + n) (length_cycle form e slots board) ∙ ap (λ n. n + length slots) (sym is) in
-      let so = hears_it.heard seed number g (pushed_at all) own.follows (cycle_members pushed late first is kept) in
+      let so = hears_it.heard seed number g (pushed_at all) own.follows (cycle_members pushed recent first is kept) in
       let places : places_to seed number before.ether (first + length slots) ≡ places_for deck number all false =
       ap (λ (o : Odds). places_of seed number o (first + length slots) false) own.odds ∙ ap (λ n. places_of seed number (odds_in deck) n false) (sym long) in
       let next : so.0 ≡ length (places_for deck number all false) = so.3 ∙ ap length places in
@@ -222,17 +222,17 @@ module _ (form : Form) (e : ℕ) (slots : List (Option ℕ)) (board : Board) whe
 
   -- After it each was given its records.
   pub all_given_cycle : ((s : ℕ) → s < length slots → bucket_in (spelling (bucket_on form e slots board s)) ≡ Some (bucket_on form e slots board s)) → (deck : Deck) (pushed : List (List ℕ)) (h : PlaceHearers)
-      → AreGivenPlaces deck pushed h → (now : List PlaceListener) → AllHearPlaces form e slots board h.pushes h.late h.readers.items now
+      → AreGivenPlaces deck pushed h → (now : List PlaceListener) → AllHearPlaces form e slots board h.pushes h.recent h.readers.items now
       → (length now ≡ length deck.readers) × AreGivenEach deck (pushed ++ board_bytes form e slots board) now
   all_given_cycle decodes deck pushed h given now heard = (
     heard.0 ∙ given.long,
     λ k d l.
         let inside : k < length h.readers.items = omega (arith, l, heard.0) in
-        cycle_given form e slots board decodes deck k pushed h.late h.pushes (get_or h.readers.items k d) (get_or now k d) given.pushes given.late (given.each k d inside) (heard.1 k d inside),
+        cycle_given form e slots board decodes deck k pushed h.recent h.pushes (get_or h.readers.items k d) (get_or now k d) given.pushes given.recent (given.each k d inside) (heard.1 k d inside),
   )
 
   -- The last of its records are to be kept after those before.
-  pub kept_from : (deck : Deck) (pushed : List (List ℕ)) (h : PlaceHearers) → AreGivenPlaces deck pushed h → AreKeptFrom h.pushes (board_bytes form e slots board) h.late (pushed ++ board_bytes form e slots board)
+  pub kept_from : (deck : Deck) (pushed : List (List ℕ)) (h : PlaceHearers) → AreGivenPlaces deck pushed h → AreKeptFrom h.pushes (board_bytes form e slots board) h.recent (pushed ++ board_bytes form e slots board)
   kept_from deck pushed h given =
       let records = board_bytes form e slots board in
       let pushes = given.pushes in
@@ -241,11 +241,11 @@ module _ (form : Form) (e : ℕ) (slots : List (Option ℕ)) (board : Board) whe
         here = λ s l.
             let own : h.pushes + s - length pushed ≡ s = omega arith in
             get_or-append_right pushed records (length pushed) (h.pushes + s) [] refl (omega arith) ∙ ap (λ k. get_or records k []) own;
-        before = λ p l near. given.late p (omega arith) (omega arith) ∙ sym (get_or_append_left pushed records [] p (omega arith));
+        before = λ p l near. given.recent p (omega arith) (omega arith) ∙ sym (get_or_append_left pushed records [] p (omega arith));
       }
 
 -- After the end each has heard its ether of all records.
-pub all_ended : (deck : Deck) (pushed : List (List ℕ)) (h : PlaceHearers) → AreGivenPlaces deck pushed h → (now : List PlaceListener) → AllEndedPlaces h.late h.readers.items now
+pub all_ended : (deck : Deck) (pushed : List (List ℕ)) (h : PlaceHearers) → AreGivenPlaces deck pushed h → (now : List PlaceListener) → AllEndedPlaces h.recent h.readers.items now
     → map (λ reader. reader.listener) now ≡ readers_over deck (ethers_in deck pushed)
 all_ended deck pushed h given now ended =
     let n = length deck.readers in
@@ -267,5 +267,5 @@ all_ended deck pushed h given now ended =
     one run k d below =
         let here : k < length h.readers.items = omega (arith, given.long) in
         let inside : k < length now = omega (arith, ended.0) in
-        get_or-map listener_in now k run d inside ∙ ended.1 k run here deck k pushed (given.each k run here) given.late
+        get_or-map listener_in now k run d inside ∙ ended.1 k run here deck k pushed (given.each k run here) given.recent
         ∙ sym (get_or-map-range_with_len over 0 (length deck.readers) k k d below (omega arith))

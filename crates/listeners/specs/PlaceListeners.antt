@@ -37,8 +37,8 @@ pub record IsPlaceListener (deck : Deck) (number : ℕ) (pushed : List (List ℕ
   pub heard : x.listener ≡ hears (map (given_at (pushed_at pushed) (places_for deck number pushed false)) (range_with_len 0 (length (places_for deck number pushed false)))) (listener_of deck number)
 
 -- The last of the pushed buckets are kept, each at its place modulo their number.
-abbrev pub AreLate : List (List ℕ) → List (List ℕ) → Type 0
-AreLate pushed late = (p : ℕ) → p < length pushed → length pushed ≤ p + KEPT_BUCKETS → get_or late (p % KEPT_BUCKETS) [] ≡ slice_index_or pushed p []
+abbrev pub AreRecent : List (List ℕ) → List (List ℕ) → Type 0
+AreRecent pushed recent = (p : ℕ) → p < length pushed → length pushed ≤ p + KEPT_BUCKETS → get_or recent (p % KEPT_BUCKETS) [] ≡ slice_index_or pushed p []
 
 -- Each of the deck's readers was given these records through its own ether.
 abbrev pub AreGivenEach : Deck → List (List ℕ) → List PlaceListener → Type 0
@@ -49,5 +49,5 @@ pub record AreGivenPlaces (deck : Deck) (pushed : List (List ℕ)) (h : PlaceHea
   pub long : length h.readers.items ≡ length deck.readers
   pub each : AreGivenEach deck pushed h.readers.items
   pub pushes : h.pushes ≡ length pushed
-  pub sized : length h.late ≡ KEPT_BUCKETS
-  pub late : AreLate pushed h.late
+  pub sized : length h.recent ≡ KEPT_BUCKETS
+  pub recent : AreRecent pushed h.recent

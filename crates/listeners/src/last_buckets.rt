@@ -1,4 +1,4 @@
-//! The last buckets that were pushed, as bytes: what an ether without bytes gives late is heard from them.
+//! The last buckets that were pushed, as bytes: what an ether without bytes delays is heard from them.
 
 ghost use Rattle.std.specs.Prelude.{◌≡◌, ◌%◌, [], IfOk, OnOk, get_or, length};
 ghost use Rattle.std.proofs.Math.ListN.{set};

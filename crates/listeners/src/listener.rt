@@ -133,7 +133,7 @@ impl Listener {
         source: &S,
         form: Form,
         first: u64,
-        late: &LastBuckets,
+        recent: &LastBuckets,
         buf: &mut [u8],
     ) -> Result<bool, NoMemory>
         requires fitting { AreFitting self.old.air form program.now.edition (slots_of program.now.disks) (S.board source.now) }
@@ -157,7 +157,7 @@ impl Listener {
             ≤ heard_count self.old.state.counts + left_before (first + length (slots_of program.now.disks)) ether.old) }
         ensures fewer { IfOk result (λ more. more ≡ true → left_before (first + length (slots_of program.now.disks)) ether.new < left_before (first + length (slots_of program.now.disks)) ether.old) }
         ensures heard { (seed number given : ℕ) (member : ℕ → Option Bucket) → IsPlacesAfter seed number given ether.old →
-            AreMembers form program.now.edition (slots_of program.now.disks) (S.board source.now) first late.now member →
+            AreMembers form program.now.edition (slots_of program.now.disks) (S.board source.now) first recent.now member →
             IfOk result (λ more. (next : ℕ) × (given ≤ next) × IsPlacesAfter seed number next ether.new
             × (more ≡ false → next ≡ length (places_to seed number ether.old (first + length (slots_of program.now.disks))))
             × (self.new ≡ hears (map (given_at member (places_to seed number ether.old (first + length (slots_of program.now.disks)))) (range_with_len given (next - given))) self.old)) }
@@ -172,7 +172,7 @@ impl Listener {
         let Some(place) = sleep_places(receiver, ether, program, source, form, first, start) else {
             return Ok(false);
         };
-        hear_place(receiver, program, source, form, first, late, place, buf);
+        hear_place(receiver, program, source, form, first, recent, place, buf);
         Ok(true)
     }
 

@@ -15,7 +15,7 @@ ghost use Rattle.bucket_codec.specs.declared.offsets.TheConstants.{HEAD_BYTES};
 ghost use Rattle.listeners.specs.declared.readers.TheConstants.{MOST_TAPE_RECORDS};
 ghost use Rattle.listeners.specs.declared.last_buckets.TheConstants.{KEPT_BUCKETS};
 ghost use Rattle.listeners.specs.AiredCycles.{AreFitting};
-ghost use Rattle.listeners.specs.PlaceListeners.{AreGivenEach, AreGivenPlaces, AreLate};
+ghost use Rattle.listeners.specs.PlaceListeners.{AreGivenEach, AreGivenPlaces, AreRecent};
 ghost use Rattle.listeners.specs.Private.PlaceSteps.{AllEndedPlaces, AllHearPlaces, AreKeptFrom, CanHearPlaces};
 
 use crate::last_buckets::{KEPT_BUCKETS, LastBuckets};
@@ -30,7 +30,7 @@ use std::alloc::Global;
 /// Keeps the last buckets of a source's cycle, the first of which has this place.
 fn keep_last<S: Source>(
     alloc: Global,
-    late: &mut LastBuckets,
+    recent: &mut LastBuckets,
     program: &Program,
     source: &S,
     form: Form,
@@ -45,14 +45,14 @@ fn keep_last<S: Source>(
     requires items { length (all_items program.now.disks) ≡ length (S.board source.now).values }
     requires room { HEAD_BYTES + entry_len form.version * length (S.board source.now).values ≤ length buf.old }
     requires last { first + length (slots_of program.now.disks) ≤ MOST_TAPE_RECORDS }
-    ensures kept { (all : List (List ℕ)) → AreKeptFrom first (board_bytes form program.now.edition (slots_of program.now.disks) (S.board source.now)) late.old all →
-        OnOk result ((length late.new ≡ KEPT_BUCKETS) × ((p : ℕ) → p < first + length (slots_of program.now.disks) → first + length (slots_of program.now.disks) ≤ p + KEPT_BUCKETS → get_or late.new (p % KEPT_BUCKETS) [] ≡ slice_index_or all p [])) }
+    ensures kept { (all : List (List ℕ)) → AreKeptFrom first (board_bytes form program.now.edition (slots_of program.now.disks) (S.board source.now)) recent.old all →
+        OnOk result ((length recent.new ≡ KEPT_BUCKETS) × ((p : ℕ) → p < first + length (slots_of program.now.disks) → first + length (slots_of program.now.disks) ≤ p + KEPT_BUCKETS → get_or recent.new (p % KEPT_BUCKETS) [] ≡ slice_index_or all p [])) }
     ensures buffer { length buf.new ≡ length buf.old }
 {
     let slots = program.slots();
     for slot in slots.saturating_sub(KEPT_BUCKETS as u32)..slots {
         let len = encode_source(program, source, form, slot, buf);
-        late.keep(alloc, first + u64::from(slot), &buf[..len])?;
+        recent.keep(alloc, first + u64::from(slot), &buf[..len])?;
     }
     Ok(())
 }
@@ -66,7 +66,7 @@ fn all_hear<S: Source>(
     source: &S,
     form: Form,
     first: u64,
-    late: &LastBuckets,
+    recent: &LastBuckets,
     buf: &mut [u8],
 ) -> Result<Vec<PlaceListener>, NoMemory>
     requires ready { All (CanHearPlaces form program.now.edition (slots_of program.now.disks) (S.board source.now) first) readers.items }
@@ -77,12 +77,12 @@ fn all_hear<S: Source>(
     requires allowed { S.airs form.policy }
     requires items { length (all_items program.now.disks) ≡ length (S.board source.now).values }
     requires room { HEAD_BYTES + entry_len form.version * length (S.board source.now).values ≤ length buf.old }
-    ensures heard { IfOk result (λ now. AllHearPlaces form program.now.edition (slots_of program.now.disks) (S.board source.now) first late.now readers.items now.items) }
+    ensures heard { IfOk result (λ now. AllHearPlaces form program.now.edition (slots_of program.now.disks) (S.board source.now) first recent.now readers.items now.items) }
     ensures buffer { length buf.new ≡ length buf.old }
 {
     let mut readers = readers;
     for reader in readers.iter_mut() {
-        reader.hear_cycle(alloc, program, source, form, first, late, buf)?;
+        reader.hear_cycle(alloc, program, source, form, first, recent, buf)?;
     }
     Ok(readers)
 }
@@ -91,14 +91,14 @@ fn all_hear<S: Source>(
 fn end_each(
     alloc: Global,
     readers: Vec<PlaceListener>,
-    late: &LastBuckets,
+    recent: &LastBuckets,
 ) -> Result<Vec<PlaceListener>, NoMemory>
-    requires { (deck : Deck) × (pushed : List (List ℕ)) × AreGivenEach deck pushed readers.items × AreLate pushed late.now × (length pushed ≤ MOST_TAPE_RECORDS) }
-    ensures { IfOk result (λ now. AllEndedPlaces late.now readers.items now.items) }
+    requires { (deck : Deck) × (pushed : List (List ℕ)) × AreGivenEach deck pushed readers.items × AreRecent pushed recent.now × (length pushed ≤ MOST_TAPE_RECORDS) }
+    ensures { IfOk result (λ now. AllEndedPlaces recent.now readers.items now.items) }
 {
     let mut readers = readers;
     for reader in readers.iter_mut() {
-        reader.end(alloc, late)?;
+        reader.end(alloc, recent)?;
     }
     Ok(readers)
 }
@@ -122,7 +122,7 @@ fn listeners_of_places(
 #[derive(Drop)]
 pub struct PlaceHearers {
     readers: Vec<PlaceListener>,
-    late: LastBuckets,
+    recent: LastBuckets,
     pushes: u64,
 }
 
@@ -137,7 +137,7 @@ impl PlaceHearers {
         }
         Ok(PlaceHearers {
             readers,
-            late: LastBuckets::new(alloc)?,
+            recent: LastBuckets::new(alloc)?,
             pushes: 0,
         })
     }
@@ -167,7 +167,7 @@ impl PlaceHearers {
             IfOk result (AreGivenPlaces deck (pushed ++ board_bytes form program.now.edition (slots_of program.now.disks) (S.board source.now))) }
         ensures buffer { length buf.new ≡ length buf.old }
     {
-        let mut late = self.late;
+        let mut recent = self.recent;
         let first = self.pushes;
         let readers = all_hear(
             alloc,
@@ -176,14 +176,14 @@ impl PlaceHearers {
             source,
             form,
             first,
-            &late,
+            &recent,
             buf,
         )?;
-        keep_last(alloc, &mut late, program, source, form, first, buf)?;
+        keep_last(alloc, &mut recent, program, source, form, first, buf)?;
         let pushes = first + u64::from(program.slots());
         Ok(PlaceHearers {
             readers,
-            late,
+            recent,
             pushes,
         })
     }
@@ -196,7 +196,7 @@ impl PlaceHearers {
         ensures counts { (deck : Deck) (pushed : List (List ℕ)) → AreGivenPlaces deck pushed self → IfOk result (λ s. s.counts.items
             ≡ counts_lines (sessions_over (by_entries (scheme_in deck)) deck (λ r. heard_by deck.settings.seed r (odds_in deck) pushed))) }
     {
-        let readers = end_each(alloc, self.readers, &self.late)?;
+        let readers = end_each(alloc, self.readers, &self.recent)?;
         let listeners = listeners_of_places(alloc, readers)?;
         let sessions = end_all(alloc, listeners)?;
         Ok(sessions)

@@ -1,22 +1,21 @@
 //! A listener with its own ether without bytes: it hears each cycle from the cycle's source, as the ether gives the places.
 
 ghost use Rattle.std.specs.Prelude.{◌≡◌, ◌⊎◌, ◌<◌, ◌≤◌, ◌+◌, ◌*◌, ◌^◌, ◌++◌, false, ℕ, List, [], Some, IfOk, OnOk, length, map};
-ghost use Rattle.air_base.specs.declared.limits.TheConstants.{MOST_SLOTS};
 ghost use Rattle.air_ether.specs.declared.ether.TheConstants.{MOST_PUSHES};
 ghost use Rattle.air_ether.specs.HeardPlaces.{left_before};
-ghost use Rattle.air_model.specs.Buckets.{bucket_in, entry_len, most_count, spelling};
+ghost use Rattle.air_model.specs.Buckets.{bucket_in, entry_len, most_count};
 ghost use Rattle.air_model.specs.Decks.{Deck};
 ghost use Rattle.air_model.specs.Disks.{all_items};
 ghost use Rattle.air_model.specs.Ethers.{heard_by};
 ghost use Rattle.air_model.specs.Outputs.{odds_in};
 ghost use Rattle.air_model.specs.Programs.{program as slots_of};
-ghost use Rattle.air_sender.specs.BoardBuckets.{EntriesBelow, board_bytes, bucket_on};
+ghost use Rattle.air_sender.specs.BoardBuckets.{EntriesBelow};
 ghost use Rattle.bucket_codec.specs.declared.offsets.TheConstants.{HEAD_BYTES};
 ghost use Rattle.receiver_core.specs.Receivers.{heard_count};
 ghost use Rattle.listeners.specs.declared.readers.TheConstants.{MOST_TAPE_RECORDS};
 ghost use Rattle.listeners.specs.AiredCycles.{AreFitting};
 ghost use Rattle.listeners.specs.Listeners.{hears, listener_of};
-ghost use Rattle.listeners.specs.PlaceListeners.{AreLate, IsPlaceListener};
+ghost use Rattle.listeners.specs.PlaceListeners.{AreRecent, IsPlaceListener};
 ghost use Rattle.listeners.specs.Private.PlaceSteps.{HearsPlaces};
 
 use crate::last_buckets::LastBuckets;
@@ -57,7 +56,7 @@ impl PlaceListener {
         source: &S,
         form: Form,
         first: u64,
-        late: &LastBuckets,
+        recent: &LastBuckets,
         buf: &mut [u8],
     ) -> Result<(), NoMemory>
         requires at { self.old.ether.pushes ≡ first }
@@ -72,7 +71,7 @@ impl PlaceListener {
         requires allowed { S.airs form.policy }
         requires items { length (all_items program.now.disks) ≡ length (S.board source.now).values }
         requires room { HEAD_BYTES + entry_len form.version * length (S.board source.now).values ≤ length buf.old }
-        ensures heard { OnOk result (HearsPlaces form program.now.edition (slots_of program.now.disks) (S.board source.now) first late.now self.old self.new) }
+        ensures heard { OnOk result (HearsPlaces form program.now.edition (slots_of program.now.disks) (S.board source.now) first recent.now self.old self.new) }
         ensures buffer { length buf.new ≡ length buf.old }
     {
         let mut more = true;
@@ -84,7 +83,7 @@ impl PlaceListener {
                 source,
                 form,
                 first,
-                late,
+                recent,
                 buf,
             )?;
         }
@@ -92,14 +91,14 @@ impl PlaceListener {
     }
 
     /// Hears all the rest: of what was pushed, the last buckets are kept.
-    pub fn end(&mut self, alloc: Global, late: &LastBuckets) -> Result<(), NoMemory>
-        requires { (deck : Deck) × (number : ℕ) × (pushed : List (List ℕ)) × IsPlaceListener deck number pushed self.old × AreLate pushed late.now × (length pushed ≤ MOST_TAPE_RECORDS) }
-        ensures { (deck : Deck) (number : ℕ) (pushed : List (List ℕ)) → IsPlaceListener deck number pushed self.old → AreLate pushed late.now →
+    pub fn end(&mut self, alloc: Global, recent: &LastBuckets) -> Result<(), NoMemory>
+        requires { (deck : Deck) × (number : ℕ) × (pushed : List (List ℕ)) × IsPlaceListener deck number pushed self.old × AreRecent pushed recent.now × (length pushed ≤ MOST_TAPE_RECORDS) }
+        ensures { (deck : Deck) (number : ℕ) (pushed : List (List ℕ)) → IsPlaceListener deck number pushed self.old → AreRecent pushed recent.now →
             OnOk result (self.new.listener ≡ hears (map bucket_in (heard_by deck.settings.seed number (odds_in deck) pushed)) (listener_of deck number)) }
     {
         self.ether.end();
         while let Some(place) = self.ether.next() {
-            self.listener.hear(alloc, &decode(late.at(place)))?;
+            self.listener.hear(alloc, &decode(recent.at(place)))?;
         }
         Ok(())
     }

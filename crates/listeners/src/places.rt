@@ -122,8 +122,8 @@ pub(crate) fn sleep_places<S: Source>(
     ensures counts { MatchOption result
         (heard_count receiver.new.state.counts + left_before (first + length (slots_of program.now.disks)) ether.new ≤ heard_count receiver.old.state.counts + left_before (first + length (slots_of program.now.disks)) ether.old + 1)
         (λ p. heard_count receiver.new.state.counts + left_before (first + length (slots_of program.now.disks)) ether.new ≤ heard_count receiver.old.state.counts + left_before (first + length (slots_of program.now.disks)) ether.old) }
-    ensures slept { (seed number given : ℕ) (late : List (List ℕ)) (member : ℕ → Option Bucket) → HasGiven seed number (first + length (slots_of program.now.disks)) given start ether.old →
-        AreMembers form program.now.edition (slots_of program.now.disks) (S.board source.now) first late member →
+    ensures slept { (seed number given : ℕ) (recent : List (List ℕ)) (member : ℕ → Option Bucket) → HasGiven seed number (first + length (slots_of program.now.disks)) given start ether.old →
+        AreMembers form program.now.edition (slots_of program.now.disks) (S.board source.now) first recent member →
         (next : ℕ) × (given ≤ next) × IfNone result (given < next) × GivesNext seed number (first + length (slots_of program.now.disks)) next result ether.old ether.new
         × ((n : ℕ) (L : List SessionLine) → listening n receiver.new L
         ≡ hears (map (given_at member (places_to seed number ether.old (first + length (slots_of program.now.disks)))) (range_with_len given (next - given))) (listening n receiver.old L)) }
@@ -143,7 +143,7 @@ pub(crate) fn hear_place<S: Source>(
     source: &S,
     form: Form,
     first: u64,
-    late: &LastBuckets,
+    recent: &LastBuckets,
     place: u64,
     buf: &mut [u8],
 )
@@ -160,13 +160,13 @@ pub(crate) fn hear_place<S: Source>(
     ensures air { receiver.new.air ≡ receiver.old.air }
     ensures reader { receiver.new.reader ≡ receiver.old.reader }
     ensures counts { heard_count receiver.new.state.counts ≡ heard_count receiver.old.state.counts + 1 }
-    ensures heard { (member : ℕ → Option Bucket) → AreMembers form program.now.edition (slots_of program.now.disks) (S.board source.now) first late.now member →
+    ensures heard { (member : ℕ → Option Bucket) → AreMembers form program.now.edition (slots_of program.now.disks) (S.board source.now) first recent.now member →
         (n : ℕ) (L : List SessionLine) → listening n receiver.new L ≡ hears_one (member place) (listening n receiver.old L) }
     ensures buffer { length buf.new ≡ length buf.old }
 {
     let _slots = program.slots();
     if place < first {
-        receiver.hear(&decode(late.at(place)));
+        receiver.hear(&decode(recent.at(place)));
         return;
     }
     hear_slot(receiver, program, source, form, (place - first) as u32, buf);

@@ -131,7 +131,7 @@ returns-clause-batches g c =
     let H = c.in_ok-history.history in
     let ended = subst (λ d. IsEnd d seen H) (ap (λ p. p.now) c.play-conducted.ensures.kept.0) c.in_ok-history.ensures.end in
     let by = airs_further deck seen H h.batches ended.goes_on c.in_ok-conducted.ensures.conducted.batches in
-    let told = subst (AirsByBatches deck H) (sym (ap (λ (l : Beginning). l.batches) c.tell-last_note.ensures)) by in
+    let told = subst (AirsByBatches deck H) (sym (ap (λ (l : Beginning). l.batches) c.tell-last_told.ensures)) by in
     subst (λ d. AirsByBatches d c.new.result.history c.new.result.batches) c.in_ok-stage.ensures.planned
     (subst (λ (run : Run). AirsByBatches deck run.history run.batches) (sym c.new.ensures) told)
 

@@ -8,7 +8,7 @@ use Rattle.listeners.proofs.place_hearers.all_hear.Goals.{After-reader-item}
 
 pub loop-reader-init : goal.loop-reader-init
 loop-reader-init g c = record {
-  heard = none_heard_yet (HearsPlaces c.args.form c.args.program.now.edition (slots_of c.args.program.now.disks) (g.S.Source.board c.args.source.now) c.args.first c.args.late.now) c.args.readers.items c.deref_mut-reader-items.result.now c.deref_mut-reader-items.ensures.value;
+  heard = none_heard_yet (HearsPlaces c.args.form c.args.program.now.edition (slots_of c.args.program.now.disks) (g.S.Source.board c.args.source.now) c.args.first c.args.recent.now) c.args.readers.items c.deref_mut-reader-items.result.now c.deref_mut-reader-items.ensures.value;
   buffer = refl;
 }
 
@@ -42,7 +42,7 @@ loop-reader-preserved g c =
     let within = c.loop-reader-test.true in
     let h = c.loop-reader.invariant.heard in
     record {
-      heard = one_hears (HearsPlaces c.args.form c.args.program.now.edition (slots_of c.args.program.now.disks) (g.S.Source.board c.args.source.now) c.args.first c.args.late.now) c.loop-reader.reader-index c.args.readers.items c.loop-reader.reader-items
+      heard = one_hears (HearsPlaces c.args.form c.args.program.now.edition (slots_of c.args.program.now.disks) (g.S.Source.board c.args.source.now) c.args.first c.args.recent.now) c.loop-reader.reader-index c.args.readers.items c.loop-reader.reader-items
           c.reader-item.result c.hear_cycle.new.self h (omega (arith, within, h.long)) c.in_ok-hear_cycle.ensures.heard;
       buffer = c.in_ok-hear_cycle.ensures.buffer ∙ c.loop-reader.invariant.buffer;
     }

@@ -5,7 +5,7 @@ use Rattle.listeners.proofs.PlaceReaderLemmas.{none_heard_yet, one_hears}
 use Rattle.listeners.proofs.place_hearers.end_each.Goals as goal
 
 pub loop-reader-init : goal.loop-reader-init
-loop-reader-init c = none_heard_yet (HasEndedPlaces c.args.late.now) c.args.readers.items c.deref_mut-reader-items.result.now c.deref_mut-reader-items.ensures.value
+loop-reader-init c = none_heard_yet (HasEndedPlaces c.args.recent.now) c.args.readers.items c.deref_mut-reader-items.result.now c.deref_mut-reader-items.ensures.value
 
 pub end-requires : goal.end-requires
 end-requires c =
@@ -20,4 +20,4 @@ pub loop-reader-preserved : goal.loop-reader-preserved
 loop-reader-preserved c =
     let within = c.loop-reader-test.true in
     let h = c.loop-reader.invariant in
-    one_hears (HasEndedPlaces c.args.late.now) c.loop-reader.reader-index c.args.readers.items c.loop-reader.reader-items c.reader-item.result c.end.new.self h (omega (arith, within, h.long)) c.in_ok-end.ensures
+    one_hears (HasEndedPlaces c.args.recent.now) c.loop-reader.reader-index c.args.readers.items c.loop-reader.reader-items c.reader-item.result c.end.new.self h (omega (arith, within, h.long)) c.in_ok-end.ensures

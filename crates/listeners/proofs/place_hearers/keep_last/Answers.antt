@@ -28,7 +28,7 @@ loop-slot-preserved g c =
       kept = λ all k.
           let so = inv.kept all k in
           let own = sym (k.here slot (omega (arith, within, length_cycle c.args.form c.args.program.now.edition slots (g.S.Source.board c.args.source.now))) ∙ slot_record c.args.form c.args.program.now.edition slots (g.S.Source.board c.args.source.now) slot within) in
-          kept_more c.loop-slot.late c.keep.new.self first slot (length slots) all within so.0 so.1 (c.in_ok-keep.ensures ∙ ap (λ n. set c.loop-slot.late ((first + n) % 9) (take c.encode_source-len.result c.encode_source-len.new.buf)) c.from.ensures ∙ ap (set c.loop-slot.late ((first + slot) % 9)) (c.encode_source-len.ensures.bytes ∙ own));
+          kept_more c.loop-slot.recent c.keep.new.self first slot (length slots) all within so.0 so.1 (c.in_ok-keep.ensures ∙ ap (λ n. set c.loop-slot.recent ((first + n) % 9) (take c.encode_source-len.result c.encode_source-len.new.buf)) c.from.ensures ∙ ap (set c.loop-slot.recent ((first + slot) % 9)) (c.encode_source-len.ensures.bytes ∙ own));
       buffer = c.encode_source-len.ensures.buffer ∙ inv.buffer;
     }
 

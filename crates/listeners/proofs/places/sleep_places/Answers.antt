@@ -9,7 +9,7 @@ use Rattle.listeners.proofs.SleepLemmas.{before_end}
 use Rattle.listeners.proofs.places.sleep_places.Goals as goal
 
 pub returns-then-skipped-eq0-clause-slept : goal.returns-then-skipped-eq0-clause-slept
-returns-then-skipped-eq0-clause-slept g c = λ seed number given late member f members.
+returns-then-skipped-eq0-clause-slept g c = λ seed number given recent member f members.
     let skipped = c.skip_unwanted-skipped.result.0 in
     let places = places_to seed number c.args.ether.now (c.args.first + length (slots_of c.args.program.now.disks)) in (
       given + skipped,
@@ -20,7 +20,7 @@ returns-then-skipped-eq0-clause-slept g c = λ seed number given late member f m
     )
 
 pub returns-clause-slept : goal.returns-clause-slept
-returns-clause-slept g c = λ seed number given late member f members.
+returns-clause-slept g c = λ seed number given recent member f members.
     let form = c.args.form in
     let e = c.args.program.now.edition in
     let slots = slots_of c.args.program.now.disks in
@@ -34,7 +34,7 @@ returns-clause-slept g c = λ seed number given late member f members.
       none_grew c.skip_unwanted-skipped.result.1 given c.skip_unwanted-skipped.result.0 c.skip_unwanted-skipped.ensures.some,
       c.skip_unwanted-skipped.ensures.given seed number given f,
       λ n L.
-          slept_places form e slots board c.args.first late member members places given k n L old c.doze.new.self c.requires.settled c.requires.fitting
+          slept_places form e slots board c.args.first recent member members places given k n L old c.doze.new.self c.requires.settled c.requires.fitting
           (before_end 0 k (omega arith) (λ none. c.if-skipped-eq0.false (sym none)))
           (subst (λ w. AreSkipped slots c.args.first w places given k) c.wanted.ensures.told (c.skip_unwanted-skipped.ensures.skipped seed number given f))
           c.doze.ensures.air c.doze.ensures.reader counted,

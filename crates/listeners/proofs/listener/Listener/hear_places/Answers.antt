@@ -65,7 +65,7 @@ returns-in_default-sleep_places-clause-heard g c = λ seed number given member f
     let start = c.in-Some.start in
     let at = subst (λ m. slice_get (places_of seed number c.args.ether.now.odds m false) given ≡ Some start) last (c.in-Some.ensures.given seed number given f) in
     let has : HasGiven seed number end given start c.next_before.new.self = (subst (λ ps. slice_get ps given ≡ Some start) (sym same) at, c.in-Some.ensures.follows seed number given f) in
-    let so = c.in_default-sleep_places.ensures.slept seed number given c.args.late.now member has members in
+    let so = c.in_default-sleep_places.ensures.slept seed number given c.args.recent.now member has members in
     let on : ℕ → Option Bucket = given_at member (places_to seed number c.next_before.new.self end) in (
       so.0,
       so.1,
@@ -92,7 +92,7 @@ returns-clause-heard g c = λ seed number given member f members.
     let place = c.in-Some-sleep_places.place in
     let at = subst (λ m. slice_get (places_of seed number c.args.ether.now.odds m false) given ≡ Some start) last (c.in-Some.ensures.given seed number given f) in
     let has : HasGiven seed number end given start c.next_before.new.self = (subst (λ ps. slice_get ps given ≡ Some start) (sym same) at, c.in-Some.ensures.follows seed number given f) in
-    let so = c.in-Some-sleep_places.ensures.slept seed number given c.args.late.now member has members in
+    let so = c.in-Some-sleep_places.ensures.slept seed number given c.args.recent.now member has members in
     let places = places_to seed number c.next_before.new.self end in
     let on : ℕ → Option Bucket = given_at member places in
     let heard : listening n c.hear_place.new.receiver N ≡ hears_one (on so.0) (listening n c.sleep_places.new.receiver N) =

@@ -6,7 +6,7 @@ use Rattle.listeners.proofs.RunLemmas.{ethers_in, numbered_over, sessions_over_e
 use Rattle.listeners.proofs.place_hearers.PlaceHearers.end.Goals as goal
 
 pub end_each-requires : goal.end_each-requires
-end_each-requires c = let given = c.requires in (given.0, given.1, given.2.each, given.2.late, given.3)
+end_each-requires c = let given = c.requires in (given.0, given.1, given.2.each, given.2.recent, given.3)
 
 pub end_all-requires : goal.end_all-requires
 end_all-requires c =

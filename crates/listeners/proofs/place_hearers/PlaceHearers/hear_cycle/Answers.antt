@@ -28,5 +28,5 @@ returns-clause-heard g c = λ deck pushed h fitting.
       each = each.1;
       pushes = omega (arith, long, c.slots.ensures.counted, c.from.ensures);
       sized = kept.0;
-      late = λ p l near. kept.1 p (omega (arith, l, long)) (omega (arith, near, long));
+      recent = λ p l near. kept.1 p (omega (arith, l, long)) (omega (arith, near, long));
     }

@@ -24,7 +24,7 @@ loop-place-init c =
       odds = c.end.ensures.odds;
       pushes = c.end.ensures.pushes;
       counts = omega (arith, own.counts, own.pushes, few, c.end.ensures.few);
-      heard = λ deck number pushed own late. (
+      heard = λ deck number pushed own recent. (
         length (places_for deck number pushed false),
         c.end.ensures.follows deck.settings.seed number (length (places_for deck number pushed false)) own.follows,
         subst (λ (ps : List (List ℕ)). c.args.self.now.listener ≡ hears (map (given_at (pushed_at ps) (places_for deck number ps true)) (range_with_len 0 (length (places_for deck number pushed false)))) (listener_of deck number))
@@ -48,8 +48,8 @@ loop-place-preserved c =
       odds = next.odds ∙ inv.odds;
       pushes = next.pushes ∙ inv.pushes;
       counts = omega (arith, one, counted, next.fewer, inv.counts);
-      heard = λ deck number pushed own late.
-          let so = inv.heard deck number pushed own late in
+      heard = λ deck number pushed own recent.
+          let so = inv.heard deck number pushed own recent in
           let k = so.0 in
           let places = places_for deck number pushed true in
           let on : ℕ → Option Bucket = given_at (pushed_at pushed) places in
@@ -58,7 +58,7 @@ loop-place-preserved c =
           let pushes : c.loop-place.self.ether.pushes ≡ length pushed = inv.pushes ∙ own.pushes in
           let low = next.within.0 in
           let high = next.within.1 in
-          let member = ap result_ok c.decode.ensures.reading ∙ ap bucket_in (c.at.ensures ∙ late place (omega arith) (omega arith)) ∙ ap (pushed_at pushed) (sym (get_or_from_slice_get places k place 0 at)) in
+          let member = ap result_ok c.decode.ensures.reading ∙ ap bucket_in (c.at.ensures ∙ recent place (omega arith) (omega arith)) ∙ ap (pushed_at pushed) (sym (get_or_from_slice_get places k place 0 at)) in
           let before : k ≡ k - 0 = omega arith in
           let after : k + 1 - 0 ≡ k + 1 = omega arith in (
             k + 1,
@@ -70,8 +70,8 @@ loop-place-preserved c =
     }
 
 pub returns : goal.returns
-returns c = λ deck number pushed own late.
+returns c = λ deck number pushed own recent.
     let inv = c.loop-place.invariant in
-    let so = inv.heard deck number pushed own late in
+    let so = inv.heard deck number pushed own recent in
     let due = places_now deck number pushed c.loop-place.self.ether (inv.odds ∙ own.odds) (inv.pushes ∙ own.pushes) inv.ended in
     heard_to_end deck number pushed so.0 c.loop-place.self.listener (c.in_default.ensures.given deck.settings.seed number so.0 so.1 ∙ ap length due) so.2

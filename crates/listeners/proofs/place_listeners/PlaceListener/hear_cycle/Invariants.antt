@@ -23,7 +23,7 @@ invariant-loop-more g l = record {
   buffer : length l.buf ≡ length l.fn.buf;
   all : l.more ≡ false → (l.self.ether.pushes ≡ l.first + length (slots_of l.program.disks)) × IsQuiet l.self.ether;
   heard : (seed number given : ℕ) (member : ℕ → Option Bucket) → IsPlacesAfter seed number given l.fn.self.ether
-      → AreMembers l.form l.program.edition (slots_of l.program.disks) (g.S.Source.board l.source) l.first l.late member
+      → AreMembers l.form l.program.edition (slots_of l.program.disks) (g.S.Source.board l.source) l.first l.recent member
       → (next : ℕ) × (given ≤ next) × IsPlacesAfter seed number next l.self.ether
       × (l.more ≡ false → next ≡ length (places_to seed number l.fn.self.ether (l.first + length (slots_of l.program.disks))))
       × (l.self.listener ≡ hears (map (given_at member (places_to seed number l.fn.self.ether (l.first + length (slots_of l.program.disks)))) (range_with_len given (next - given))) l.fn.self.listener);
