@@ -1,7 +1,7 @@
 """What crates cost to prove: the processor time of the checks that `rt ci` starts, read from /proc once a second.
 
 The time of a crate is that of each process of the kit with its name below `rt ci`, those of its edits left out: proof, tests and
-programs. What ends within a second, or runs in the second before it ends, is missed: some 3 % too little.
+programs. What ends within a second, or runs in the second before it ends, is missed: at most 4 % too little.
 """
 import collections
 import glob
