@@ -93,11 +93,12 @@ not_fault : HasFault (codes "item,0,10,1\n") 2 7 → ⊥
 unfolding HasFault csv_on_literals
 not_fault (place, row, fails) = not_seven (subst (λ at. RecordsFail (item0 ∷ []) at 7) (omega (arith, row)) fails)
 
--- The text spells no deck.
+-- The record spells no deck.
 not_faultless : (deck : Deck) → RecordsSpell (item0 ∷ []) deck → ⊥
 unfolding kinds_at number_of
 not_faultless deck h = let none : length (kinds_at (item0 ∷ []) 1) ≡ 0 = ap length (h.faultless 1 (omega arith)) in omega (arith, none)
 
+-- The text spells no deck.
 not_spelled : (deck : Deck) → Spells (codes "item,0,10,1\n") deck → ⊥
 unfolding Spells csv_on_literals
 not_spelled deck spells = not_faultless deck spells
