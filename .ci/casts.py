@@ -1,5 +1,6 @@
-"""Tries `cast` and `listen` of the built program at once, for .ci/air: that each listener ends, that a rate is kept and spreads the updates, that
-a silence is an end and with 0 none is, and what a listener says on a terminal.
+"""Tries `cast` and `listen` of the built program at once, for .ci/air: that the datagrams of a cast are those of its history and then the end, three
+times, that each listener ends, that a rate is kept and spreads the updates, that a silence is an end and with 0 none is, and what a listener says
+on a terminal.
 """
 import os
 import pty
@@ -7,6 +8,8 @@ import socket
 import subprocess
 import tempfile
 import time
+
+from datagrams import bucket
 
 TOP = os.path.dirname(os.path.dirname(os.path.abspath(__file__)))
 PROGRAM = os.path.join(TOP, "crates", "airdisk", "out", "airdisk")
@@ -73,6 +76,49 @@ def send(port, datagrams):
 def heard(printed):
     """How many datagrams a listener heard by its counts: opened, dozed, late, refused and foreign."""
     return max([sum(map(int, line.split(",")[2:7])) for line in printed if line.startswith("counts,")], default=0)
+
+
+def sent(deck, rate):
+    """What a cast sends to a socket of this process, datagram by datagram, and the history that it prints. All of it is there once the cast has
+    ended, since what is sent to a socket of this machine waits in it."""
+    with socket.socket(socket.AF_INET, socket.SOCK_DGRAM) as ear:
+        ear.bind(("127.0.0.1", 0))
+        history, datagrams = cast(deck, ear.getsockname()[1], AIRDISK_RATE=str(rate)), []
+        ear.setblocking(False)
+        try:
+            while True:
+                datagrams.append(ear.recv(2048))
+        except BlockingIOError:
+            return datagrams, history
+
+
+def aired(history):
+    """For each bucket of examples/refused.csv where `cast` prints this history: its cycle, its slot, its item, the value and the column."""
+    rows, cycle, values, columns = [], 0, [10, 20], [[0, 0], [0, 0]]
+    for event in history:
+        if event == "start":
+            cycle += 1
+            rows += [(cycle, slot, item, values[item], list(columns[item])) for slot, item in enumerate((1, 0))]
+        elif event == "commit,0,0":
+            values[0], columns[0] = 11, [cycle, 0]
+        elif event == "commit,0,1":
+            values[1], columns[1] = values[0] + 10, [columns[0][0], cycle]
+    return rows
+
+
+def try_sent(say, deck, casts):
+    """What a cast sends is what its history airs, and the end, three times. Casts at a rate go on until one commits while it airs, twenty at most."""
+    changed = 0
+    for at in range(20):
+        datagrams, history = sent(deck, 40)
+        rows = aired(history)
+        wanted = [bucket(1, 2, cycle, slot, item, value, column) for cycle, slot, item, value, column in rows] + [b""] * 3
+        whole = sorted(history) == ["commit,0,0", "commit,0,1", "start", "start"]
+        say(whole and datagrams == wanted, f"cast {at + 1} printed {history} and sent {[data.hex() for data in datagrams]}, and not {[data.hex() for data in wanted]}")
+        changed += any(any(column) for _, _, _, _, column in rows)
+        if changed and at + 1 >= casts:
+            break
+    say(changed > 0, "no cast of twenty committed between its cycles")
 
 
 def try_ends(say, deck, casts):
@@ -189,11 +235,20 @@ def try_terminal(say, deck, is_long):
     say(said == b"" and status == 0, f"on no terminal: status {status}, said {said}")
 
 
+def deck_of_two_cycles(folder):
+    """The deck examples/refused.csv with two cycles."""
+    deck = os.path.join(folder, "cast.csv")
+    with open(os.path.join(TOP, "examples", "refused.csv"), encoding="utf-8") as file, open(deck, "w", encoding="utf-8") as copy:
+        copy.write(file.read() + "set,cycles,2\n")
+    return deck
+
+
 def try_casts(say, folder, casts):
     """All of these, with this many casts to a listener; where there are more than two also what takes long."""
     if not os.access(PROGRAM, os.X_OK):
         print("skipped: the program isn't built, so no cast is listened to")
         return
+    try_sent(say, deck_of_two_cycles(folder), casts)
     deck = os.path.join(folder, "timetable.csv")
     with open(deck, "w", encoding="utf-8") as file:
         file.write(DECK)
