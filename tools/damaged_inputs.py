@@ -4,7 +4,7 @@ import random
 import re
 import subprocess
 
-from damage import damaged, parts_of
+from damage import EDGES, damaged, parts_of
 from preloads import read, write
 
 # The decks from which inputs are made: each can be run, and has a script
@@ -28,6 +28,9 @@ DECKS = [
     # three editions, with cycles of 3, 4 and 6 slots
     "item,0,10,3\nitem,1,20,2\nitem,2,30,1\ndisk,3,1\nreplan,2,1 2,2 1\nreplan,4,2 1,- 1\nset,delta,1\nupdate,0,,0=11\nupdate,0,0,1=0+10\nreader,1,9,2\n"
     "query,0,0\nquery,0,2 1\nquery,0,1 0\nreader,0,0,2\nquery,1,1 2\nscript,s 0 s 0 s s s\nset,cycles,5\nset,loss,10\nset,late,20\n",
+    # version 2, groups and programs that change in one deck
+    "set,version,2\nset,group,2\nitem,0,10,3\nitem,1,20,2\nitem,2,30,1\nitem,3,40,1\ndisk,1,2\ndisk,3,1\nreplan,2,2 2,2 1\nreplan,4,4,1\nupdate,0,,0=11\n"
+    "update,0,0,1=0+10\nreader,2,300,2\nquery,0,0 1\nquery,0,3 2\nreader,0,0,1\nquery,1,2 3\nscript,s 0 s 0 s s s\nset,cycles,4\nset,loss,10\nset,late,20\n",
 ]
 # Reports of a run of the decks that have monitors, since its threads make another history each time; and one with an attempt that aged
 RUNS = {
@@ -46,6 +49,8 @@ RUNS = {
 DECK_FAULT = r"fault,2,[1-9][0-9]*,([1-9]|10|11|13)\n"
 TOO_LONG = r"fault,13,[1-9][0-9]*\n"
 TOO_MUCH = r"fault,11,[1-9][0-9]*\n"
+TOO_MANY = r"fault,12,[0-9]+\n"
+CUT = r"fault,6,[0-9]+\n"
 PART = r"[0-9]+@[0-9]+=[0-9]+"
 READS = rf"({PART}( {PART})*)?"
 HISTORY = r"((start|commit,[0-9]+,[0-9]+)\n)*"
@@ -58,26 +63,31 @@ PLAN = rf"{PROGRAM}(replan(,[0-9]+){{2}}\n{PROGRAM})*"
 FINDINGS = r"(agrees,[0-9]+\n|differs,[0-9]+,(value|verdict|clash|total)\n)*audited,[0-9]+,"
 # Of each command: its words, its other input, its weight, and the text of each status that it has over a file that can be read
 COMMANDS = {
-    "plan": ("plan DECK", None, 4, {0: PLAN, 2: DECK_FAULT, 13: TOO_LONG}),
-    "split": ("split DECK", None, 2, {0: r"split,[1-9][0-9 ]*,[0-9]+\ngiven,[1-9][0-9 ]*,[0-9]+\n", 2: DECK_FAULT, 11: TOO_MUCH, 13: TOO_LONG}),
-    "script": ("script DECK OUT", None, 6, {0: HISTORY + VERDICTS + COUNTS, 2: DECK_FAULT, 12: r"fault,12,[0-9]+\n", 13: TOO_LONG}),
-    "tune": ("tune DECK TAPE", "TAPE", 8, {0: VERDICTS + COUNTS, 2: DECK_FAULT, 6: r"fault,6,[0-9]+\n", 13: TOO_LONG}),
-    "audit": ("audit DECK REPORT", "REPORT", 8, {0: FINDINGS + r"0\n", 2: DECK_FAULT, 8: r"fault,8,[1-9][0-9]*,[1-7]\n", 9: FINDINGS + r"[1-9][0-9]*\n", 11: TOO_MUCH}),
-    "run": ("run DECK OUT", None, 4, {0: HISTORY + VERDICTS + COUNTS + SIGHTS, 2: DECK_FAULT, 12: r"fault,12,[0-9]+\n", 13: TOO_LONG}),
-    "listen": ("listen DECK {port}", "AIR", 1, {0: VERDICTS + COUNTS, 2: DECK_FAULT, 13: TOO_LONG}),
+    "plan": ("plan DECK", None, 20, {0: PLAN, 2: DECK_FAULT, 13: TOO_LONG}),
+    "split": ("split DECK", None, 10, {0: r"split,[1-9][0-9 ]*,[0-9]+\ngiven,[1-9][0-9 ]*,[0-9]+\n", 2: DECK_FAULT, 11: TOO_MUCH, 13: TOO_LONG}),
+    "script": ("script DECK OUT", None, 30, {0: HISTORY + VERDICTS + COUNTS, 2: DECK_FAULT, 12: TOO_MANY, 13: TOO_LONG}),
+    "tune": ("tune DECK TAPE", "TAPE", 40, {0: VERDICTS + COUNTS, 2: DECK_FAULT, 6: CUT, 13: TOO_LONG}),
+    "beam": ("beam DECK OUT", None, 20, {0: r"beam(,[0-9]+){3}\n", 2: DECK_FAULT, 12: TOO_MANY, 13: TOO_LONG}),
+    "seek": ("seek INDEXED {item} {start}", "INDEXED", 30, {0: r"found(,[0-9]+){5}\n|lost(,[0-9]+){2}\n", 6: CUT}),
+    "drill": ("drill {seed} {size}", None, 1, {0: r"drill(,[0-9]+){11}\n"}),
+    "audit": ("audit DECK REPORT", "REPORT", 40, {0: FINDINGS + r"0\n", 2: DECK_FAULT, 8: r"fault,8,[1-9][0-9]*,[1-7]\n", 9: FINDINGS + r"[1-9][0-9]*\n", 11: TOO_MUCH}),
+    "run": ("run DECK OUT", None, 20, {0: HISTORY + VERDICTS + COUNTS + SIGHTS, 2: DECK_FAULT, 12: TOO_MANY, 13: TOO_LONG}),
+    "cast": ("cast DECK {port}", None, 1, {0: HISTORY, 2: DECK_FAULT, 12: TOO_MANY, 13: TOO_LONG}),
+    "listen": ("listen DECK {port}", "AIR", 5, {0: VERDICTS + COUNTS, 2: DECK_FAULT, 13: TOO_LONG}),
 }
 FORMS = {name: {status: re.compile(text.encode()) for status, text in command[3].items()} for name, command in COMMANDS.items()}
 DRAWN = [name for name, command in COMMANDS.items() for _ in range(command[2])]
 
 
 def made_of(program, deck, folder):
-    """The tape of a deck's script, and the reports of it and of a run, if there is one of this deck: with each of them an audit agrees."""
+    """The tape of a deck's script, its indexed tape, and the reports of it and of a run, if there is one of this deck: with each an audit agrees."""
     write(os.path.join(folder, "DECK"), deck.encode())
     reports = [printed(program, folder, "script", "DECK", "TAPE"), *(report.encode() for report in RUNS.get(deck, []))]
     for report in reports:
         write(os.path.join(folder, "REPORT"), report)
         printed(program, folder, "audit", "DECK", "REPORT")
-    return read(os.path.join(folder, "TAPE")), reports
+    printed(program, folder, "beam", "DECK", "INDEXED")
+    return read(os.path.join(folder, "TAPE")), read(os.path.join(folder, "INDEXED")), reports
 
 
 def printed(program, folder, *words):
@@ -86,17 +96,18 @@ def printed(program, folder, *words):
 
 
 class Input:
-    """The input of a number: its command, and its files, of which one at least is damaged."""
+    """The input of a number: its command, its words, and its files. One that the command reads is damaged at least; for `drill` numbers are drawn."""
 
     def __init__(self, seed, number, made):
         draw = random.Random(f"{seed} {number}")
         self.number, self.command = number, draw.choice(DRAWN)
         words, other, _, _ = COMMANDS[self.command]
         at = draw.randrange(len(DECKS))
-        deck, (tape, reports) = DECKS[at].encode(), made[at]
-        self.words, self.files, self.air = words, {"DECK": deck}, []
-        whole = {"TAPE": tape, "AIR": tape, "REPORT": draw.choice(reports)}.get(other)
-        if whole is None or draw.randrange(8) == 0:
+        deck, (tape, indexed, reports) = DECKS[at].encode(), made[at]
+        self.words, self.files, self.air = words.format(port="{port}", **self.numbers(draw)), {"DECK": deck}, []
+        tapes = draw.choice((tape, tape, tape, indexed))
+        whole = {"TAPE": tapes, "AIR": tapes, "INDEXED": draw.choice((indexed, indexed, indexed, tape)), "REPORT": draw.choice(reports)}.get(other)
+        if whole is None or (other != "INDEXED" and draw.randrange(8) == 0):
             self.files["DECK"] = damaged(draw, deck)
         if whole is not None:
             bytes_ = damaged(draw, whole) if self.files["DECK"] == deck or draw.randrange(2) else whole
@@ -105,3 +116,8 @@ class Input:
                 self.air = [part[4:60_004] for part in parts_of(bytes_ + b"\0" * (b"\0" not in bytes_))]
             else:
                 self.files[other] = bytes_
+
+    def numbers(self, draw):
+        """What stands for numbers in the words of commands, each one that the command takes."""
+        item, start, seed = (draw.choice([edge for edge in EDGES if edge <= most]) for most in (65_534, 2**32 - 1, 2**64 - 1))
+        return {"item": draw.choice((draw.randrange(5), item)), "start": draw.choice((draw.randrange(40), start)), "seed": seed, "size": draw.randint(1, 40)}
