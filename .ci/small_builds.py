@@ -10,19 +10,31 @@ STRICT = ["-std=c99", "-Wall", "-Wextra", "-Wconversion", "-Werror", "-pedantic"
 CHECKED = ["-O1", "-g", "-fsanitize=address,undefined", "-fno-sanitize-recover=all"]
 GREATEST = ["-DAIR_ITEMS=1024", "-DAIR_READS=16", "-DAIR_ROOM=256"]
 BUILDS = {"full": [], "thin": ["-DAIR_THIN"]}
-# Of each wrong receiver the right text and the wrong one
+CLASH = "return is_stale || receiver->entries[read][receiver->reads] >= cycle;"
+EARLIER = "#ifdef AIR_THIN\n    if (is_earlier(receiver, bucket->cycle))\n        return AIR_EARLIER;\n#endif\n"
+ARM, BOARD = "arm-none-eabi", ["-Os", "-mcpu=cortex-m0plus", "-mthumb", "-ffreestanding"]
+BOARD_SIZES = [[f"-DAIR_ITEMS={items}", *more] for items in (16, 64, 256) for more in (["-DAIR_THIN"], [], ["-DAIR_ROOM=4"])]
+CALLED = {"memcmp", "memcpy", "memset", "__aeabi_idivmod", "__aeabi_uidivmod"}
+# for how long libFuzzer tries inputs
+FUZZ_SECONDS = 30
+# Of each wrong receiver its build, the right text and the wrong one
 WRONG = {
-    "an entry that is the held cycle does not clash": ("int is_stale = row[read] >= ", "int is_stale = row[read] > "),
-    "an entry of a held read that is the new cycle does not clash": ("return is_stale || receiver->entries[read][receiver->reads] >= cycle;",
-                                                                     "return is_stale || receiver->entries[read][receiver->reads] > cycle;"),
-    "the held columns are not looked at": ("return is_stale || receiver->entries[read][receiver->reads] >= cycle;", "return is_stale;"),
-    "the new column is not looked at": ("return is_stale || receiver->entries[read][receiver->reads] >= cycle;",
-                                        "return receiver->entries[read][receiver->reads] >= cycle;"),
-    "after an abort the copy stays": ("        drop_copy(receiver, clash);\n", ""),
-    "an age is one more": ("bucket->cycle - *at;", "bucket->cycle - *at - 1;"),
-    "an age is one less": ("bucket->cycle - *at;", "bucket->cycle - *at + 1;"),
-    "slots of another edition fit": (" || bucket->edition != number || ", " || "),
-    "the edition of a bucket is taken from its field": ("        if (cycle < next[FIRST])\n            break;\n", "        if (cycle <= next[FIRST])\n            break;\n"),
+    "an entry that is the held cycle does not clash": ("full", "int is_stale = row[read] >= ", "int is_stale = row[read] > "),
+    "an entry of a held read that is the new cycle does not clash": ("full", CLASH, CLASH.replace(">=", ">")),
+    "the held columns are not looked at": ("full", CLASH, "return is_stale;"),
+    "the new column is not looked at": ("full", CLASH, CLASH.replace("is_stale || ", "")),
+    "after an abort the copy stays": ("full", "        drop_copy(receiver, clash);\n", ""),
+    "an age is one more": ("full", "bucket->cycle - *at;", "bucket->cycle - *at - 1;"),
+    "an age is one less": ("full", "bucket->cycle - *at;", "bucket->cycle - *at + 1;"),
+    "slots of another edition fit": ("full", " || bucket->edition != number || ", " || "),
+    "an edition is in force a cycle later": ("full", "if (cycle < next[FIRST])", "if (cycle <= next[FIRST])"),
+    "reads of 255 cycles are judged": ("full", ">= OLD)", "> OLD)"),
+    "copies stay by the first edition": ("full", "edition_at(receiver->plan, receiver->newest, &number)", "edition_at(receiver->plan, 1, &number)"),
+    "a copy of the reader's age is too old": ("full", "<= receiver->reader[AGE]", "< receiver->reader[AGE]"),
+    "thin, what is as new as the last held read is left": ("thin", "cycle < receiver->cycles[receiver->reads - 1]", "cycle <= receiver->cycles[receiver->reads - 1]"),
+    "thin, what is not earlier than the first held read is judged": ("thin", "cycle < receiver->cycles[receiver->reads - 1]", "cycle < receiver->cycles[0]"),
+    "thin, what is earlier is left before it is known to be too far": ("thin", "    if (is_far(receiver, bucket->cycle)) {", EARLIER + "    if (is_far(receiver, bucket->cycle)) {"),
+    "thin, what is earlier is judged": ("thin", EARLIER, ""),
 }
 
 
@@ -55,18 +67,71 @@ def checked_builds(say, folder):
 
 
 def wrong_builds(say, folder):
-    """The wrong receivers: of each its name, and its program tune."""
+    """The wrong receivers: of each its name, its program tune, and whether it is thin."""
     compiler, programs = next(name for name in ("gcc", "clang") if shutil.which(name)), {}
     with open(os.path.join(FOLDER, "air.c"), encoding="utf-8") as file:
         text = file.read()
-    for number, (name, (right, wrong)) in enumerate(WRONG.items()):
+    for number, (name, (build, right, wrong)) in enumerate(WRONG.items()):
         say(text.count(right) == 1, f"the text of a wrong receiver is not there once: {name}")
-        source, programs[name] = (os.path.join(folder, f"wrong{number}{ending}") for ending in (".c", ""))
+        source, program = (os.path.join(folder, f"wrong{number}{ending}") for ending in (".c", ""))
         with open(source, "w", encoding="utf-8") as file:
             file.write(text.replace(right, wrong))
-        is_built(say, compiler, "-std=c99", "-O1", *GREATEST, "-I", ".", "tune.c", source, "-o", programs[name])
+        is_built(say, compiler, "-std=c99", "-O1", *GREATEST, *BUILDS[build], "-I", ".", "tune.c", source, "-o", program)
+        programs[name] = program, build == "thin"
     return programs
 
 
-def try_tools(say, folder):
-    """What other tools say."""
+def listeners(folder):
+    """The programs listen that were built."""
+    return [os.path.join(folder, name) for name in sorted(os.listdir(folder)) if name.startswith("listen-")]
+
+
+def is_there(name, what):
+    """Whether a program is installed; if not, that is said."""
+    if not shutil.which(name):
+        print(f"skipped: {what}: {name} is not installed")
+    return bool(shutil.which(name))
+
+
+def try_board(say, folder):
+    """A small machine's compiler: the receiver has no memory of its own, and calls nothing but what copies, compares and divides. README's table has its sizes."""
+    if not is_there(f"{ARM}-gcc", "the receivers in C on a small machine"):
+        return
+    for sizes in BOARD_SIZES:
+        name = os.path.join(folder, "board.o")
+        if is_built(say, f"{ARM}-gcc", *STRICT, *BOARD, *sizes, "-c", "air.c", "-o", name):
+            _, said = ran(f"{ARM}-size", name)
+            _, called = ran(f"{ARM}-nm", "-u", name)
+            say(said.splitlines()[1].split()[1:3] == ["0", "0"], f"air.c has memory of its own: {said}")
+            say(set(called.replace("U", "").split()) <= CALLED, f"air.c calls {called}")
+
+
+def try_analyzer(say, folder):
+    """clang's analyzer finds nothing."""
+    if is_there("scan-build", "clang's analyzer over the receivers in C"):
+        for sizes in ([*GREATEST], ["-DAIR_THIN"]):
+            for source in ("air.c", "tune.c", "listen.c"):
+                words = ["scan-build", "--status-bugs", "-o", folder, "cc", "-std=c99", *sizes, "-c", source, "-o", os.path.join(folder, "analyzed.o")]
+                status, said = ran(*words, cwd=FOLDER)
+                say(status == 0, f"{' '.join(words)}: {said}")
+
+
+def try_fuzz(say, folder):
+    """libFuzzer, full for as long as is said here and thin over the corpus alone."""
+    if not is_there("clang", "libFuzzer over the receivers in C"):
+        return
+    corpus = os.path.join(folder, "corpus")
+    shutil.copytree(os.path.join(FOLDER, "corpus"), corpus)
+    for name, seconds in (("full", FUZZ_SECONDS), ("thin", 0)):
+        program = os.path.join(folder, f"fuzz-{name}")
+        words = ["clang", *STRICT, *CHECKED, "-fsanitize=fuzzer", "-DAIR_ITEMS=64", "-DAIR_ROOM=3", *BUILDS[name], "fuzz.c", "air.c", "-o", program]
+        status, said = ran(*words, cwd=FOLDER)
+        if "libclang_rt.fuzzer" in said:
+            print("skipped: libFuzzer over the receivers in C: it is not installed")
+            return
+        say(status == 0, f"{' '.join(words)}: {said}")
+        status, said = ran(program, *([f"-max_total_time={seconds}"] if seconds else ["-runs=0"]), "-max_len=8192", corpus, cwd=folder)
+        say(status == 0, f"libFuzzer, {name}: {said[-2000:]}")
+
+
+TOOLS = [try_board, try_analyzer, try_fuzz]

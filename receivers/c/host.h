@@ -39,12 +39,27 @@ static int read_plan(const char *name)
     return refusal == AIR_READY && readers == plan[5];
 }
 
+/* Prints a value in digits: the printf of a small machine may know no number of 64 bits. */
+static void print_value(FILE *out, uint64_t value)
+{
+    char digits[21];
+    size_t at = sizeof digits - 1;
+
+    digits[at] = 0;
+    do
+        digits[--at] = (char)('0' + value % 10);
+    while (value /= 10);
+    fputs(digits + at, out);
+}
+
 static void print_reads(FILE *out, const struct air_verdict *verdict)
 {
     unsigned read;
 
-    for (read = 0; read < verdict->reads; read++)
-        fprintf(out, "%s%u@%" PRIu32 "=%" PRIu64, read ? " " : "", verdict->items[read], verdict->cycles[read], verdict->values[read]);
+    for (read = 0; read < verdict->reads; read++) {
+        fprintf(out, "%s%u@%" PRIu32 "=", read ? " " : "", verdict->items[read], verdict->cycles[read]);
+        print_value(out, verdict->values[read]);
+    }
 }
 
 static void print_verdict(FILE *out, unsigned reader, const struct air_verdict *verdict)

@@ -52,7 +52,9 @@ static int look_through(FILE *tape)
     rewind(tape);
     if (length == -1)
         return 0;
-    printf("fault,6,%" PRIu64 "\n", at);
+    printf("fault,6,");
+    print_value(stdout, at);
+    puts("");
     return 6;
 }
 
@@ -60,8 +62,10 @@ static void print_bucket(const struct air_bucket *bucket)
 {
     uint16_t item;
 
-    printf("version=%u kind=%u edition=%u count=%u cycle=%" PRIu32 " slot=%u item=%u value=%" PRIu64 " entries=(", bucket->version, bucket->kind,
-           bucket->edition, bucket->count, bucket->cycle, bucket->slot, bucket->item, bucket->value);
+    printf("version=%u kind=%u edition=%u count=%u cycle=%" PRIu32 " slot=%u item=%u value=", bucket->version, bucket->kind, bucket->edition,
+           bucket->count, bucket->cycle, bucket->slot, bucket->item);
+    print_value(stdout, bucket->value);
+    printf(" entries=(");
     for (item = 0; bucket->kind != AIR_IDLE && item < bucket->count; item++)
         printf("%s%" PRIu32, item ? ", " : "", air_entry(bucket, item));
     puts(bucket->kind != AIR_IDLE && bucket->count == 1 ? ",)" : ")");
