@@ -13,7 +13,7 @@ BUILDS = {"full": [], "thin": ["-DAIR_THIN"]}
 CLASH = "return is_stale || receiver->entries[read][receiver->reads] >= cycle;"
 EARLIER = "#ifdef AIR_THIN\n    if (is_earlier(receiver, bucket->cycle))\n        return AIR_EARLIER;\n#endif\n"
 ARM, BOARD = "arm-none-eabi", ["-Os", "-mcpu=cortex-m0plus", "-mthumb", "-ffreestanding"]
-BOARD_SIZES = [[f"-DAIR_ITEMS={items}", *more] for items in (16, 64, 256) for more in (["-DAIR_THIN"], [], ["-DAIR_ROOM=4"])]
+BOARD_BUILDS = {"thin": ["-DAIR_THIN"], "full": [], "full, 4 copies": ["-DAIR_ROOM=4"]}
 CALLED = {"memcmp", "memcpy", "memset", "__aeabi_idivmod", "__aeabi_uidivmod"}
 # for how long libFuzzer tries inputs
 FUZZ_SECONDS = 30
@@ -86,6 +86,14 @@ def listeners(folder):
     return [os.path.join(folder, name) for name in sorted(os.listdir(folder)) if name.startswith("listen-")]
 
 
+def vectors():
+    """The deck, the tape and the wanted rows of each vector."""
+    folder = os.path.join(TOP, "examples", "vectors")
+    for name in sorted(name[:-4] for name in os.listdir(folder) if name.endswith(".csv")):
+        with open(os.path.join(folder, f"{name}.txt"), encoding="utf-8") as file:
+            yield os.path.join(folder, f"{name}.csv"), os.path.join(folder, f"{name}.tape"), file.read()
+
+
 def is_there(name, what):
     """Whether a program is installed; if not, that is said."""
     if not shutil.which(name):
@@ -93,20 +101,62 @@ def is_there(name, what):
     return bool(shutil.which(name))
 
 
-def try_board(say, folder):
+def board_deck(items):
+    """The deck of the table of sizes."""
+    sizes = items // 8, items // 4, items - items // 8 - items // 4
+    return "".join([*(f"item,{item},0,{items - item}\n" for item in range(items)), *(f"disk,{size},{freq}\n" for size, freq in zip(sizes, (4, 2, 1))),
+                    "reader,0,0,3\nquery,0,0 5 9 13\nquery,0,3 7\n"])
+
+
+def sections_of(name):
+    """How many bytes of text, data and bss an object has."""
+    return [int(field) for field in ran(f"{ARM}-size", name)[1].splitlines()[1].split()[:3]]
+
+
+def try_board(say, program, folder):
     """A small machine's compiler: the receiver has no memory of its own, and calls nothing but what copies, compares and divides. README's table has its sizes."""
     if not is_there(f"{ARM}-gcc", "the receivers in C on a small machine"):
         return
-    for sizes in BOARD_SIZES:
-        name = os.path.join(folder, "board.o")
-        if is_built(say, f"{ARM}-gcc", *STRICT, *BOARD, *sizes, "-c", "air.c", "-o", name):
-            _, said = ran(f"{ARM}-size", name)
-            _, called = ran(f"{ARM}-nm", "-u", name)
-            say(said.splitlines()[1].split()[1:3] == ["0", "0"], f"air.c has memory of its own: {said}")
-            say(set(called.replace("U", "").split()) <= CALLED, f"air.c calls {called}")
+    with open(os.path.join(FOLDER, "..", "README.md"), encoding="utf-8") as file:
+        page = file.read()
+    is_told = f"`{ARM}-gcc {ran(f'{ARM}-gcc', '--version')[1].splitlines()[0].split(') ')[1]} " in page
+    if not is_told:
+        print(f"skipped: the table of sizes in receivers/README.md: it is of another {ARM}-gcc")
+    deck, plan = os.path.join(folder, "board.csv"), os.path.join(folder, "plan.h")
+    objects = {name: os.path.join(folder, f"board-{name}.o") for name in ("air", "blink")}
+    for items in (16, 64, 256):
+        with open(deck, "w", encoding="utf-8") as file:
+            file.write(board_deck(items))
+        status, said = ran("bash", "-c", '"$0" plan "$1" | ./plan.py "$1" "$2" 0', program, deck, plan, cwd=FOLDER)
+        say(status == 0, f"plan.py: {said}")
+        for build, sizes in BOARD_BUILDS.items():
+            words = [f"{ARM}-gcc", *STRICT, *BOARD, f"-DAIR_ITEMS={items}", *sizes, "-I", folder]
+            if all([is_built(say, *words, "-c", f"{name}.c", "-o", objects[name]) for name in objects]):
+                air, blink = (sections_of(name) for name in objects.values())
+                say(air[1:] == [0, 0], f"air.c has memory of its own: {air}")
+                row = f"| {items} | {build} | {air[0] + blink[0]:,} | {blink[1]} | {blink[2]:,} |\n"
+                say(not is_told or row in page, f"receivers/README.md has no row {row}")
+                called = set(ran(f"{ARM}-nm", "-u", objects["air"])[1].replace("U", "").split())
+                say(called <= CALLED, f"air.c calls {called - CALLED}")
 
 
-def try_analyzer(say, folder):
+def try_machine(say, program, folder):
+    """The vectors on the code of a small machine. qemu-arm 7.2 starts no program of a Cortex-M: so what reads the files is built for another machine, and `air.c`
+    for the small one."""
+    if not (is_there(f"{ARM}-gcc", "the receiver in C by qemu-arm") and is_there("qemu-arm", "the receiver in C by qemu-arm")):
+        return
+    name, machine, plan = (os.path.join(folder, name) for name in ("machine.o", "machine", "machine.plan"))
+    sizes = ["-std=c99", "-DAIR_ITEMS=64", "-DAIR_ROOM=4", "-DHOST_WORDS=4096", "-DHOST_READERS=8"]
+    built = is_built(say, f"{ARM}-gcc", *sizes, *BOARD, "-c", "air.c", "-o", name) and is_built(say, f"{ARM}-objcopy", "--remove-section", ".ARM.attributes", name)
+    if not built or not is_built(say, f"{ARM}-gcc", *sizes, "-Os", "-mcpu=cortex-a7", "-mthumb", "--specs=rdimon.specs", "tune.c", name, "-o", machine):
+        return
+    for vector, tape, wanted in vectors():
+        ran("bash", "-c", '"$0" plan "$1" | ./plan.py "$1" "$2"', program, vector, plan, cwd=FOLDER)
+        got = ran("qemu-arm", "-cpu", "cortex-a7", machine, plan, tape)[1]
+        say(got == wanted, f"by qemu-arm, the vector {vector}: printed {got!r}")
+
+
+def try_analyzer(say, _program, folder):
     """clang's analyzer finds nothing."""
     if is_there("scan-build", "clang's analyzer over the receivers in C"):
         for sizes in ([*GREATEST], ["-DAIR_THIN"]):
@@ -116,7 +166,7 @@ def try_analyzer(say, folder):
                 say(status == 0, f"{' '.join(words)}: {said}")
 
 
-def try_fuzz(say, folder):
+def try_fuzz(say, _program, folder):
     """libFuzzer, full for as long as is said here and thin over the corpus alone."""
     if not is_there("clang", "libFuzzer over the receivers in C"):
         return
@@ -134,4 +184,4 @@ def try_fuzz(say, folder):
         say(status == 0, f"libFuzzer, {name}: {said[-2000:]}")
 
 
-TOOLS = [try_board, try_analyzer, try_fuzz]
+TOOLS = [try_board, try_machine, try_analyzer, try_fuzz]

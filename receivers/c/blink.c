@@ -16,15 +16,16 @@ static struct air_receiver receiver;
 int main(void)
 {
     struct air_verdict verdict;
+    uint32_t slots;
 
     if (air_init(&receiver, air_plan, sizeof air_plan / sizeof *air_plan, 0) != AIR_READY)
         return 1;
-    while (air_wake(&receiver) != AIR_FOREVER) {
+    for (slots = 0; slots != AIR_FOREVER; slots = air_wake(&receiver)) {
+        if (slots > 0)
+            board_sleep(slots);
         air_hear(&receiver, bytes, board_hear(bytes, sizeof bytes));
         while (air_next(&receiver, &verdict))
             board_light(verdict.end == AIR_ACCEPT);
-        if (air_wake(&receiver) > 0)
-            board_sleep(air_wake(&receiver));
     }
     return 0;
 }
