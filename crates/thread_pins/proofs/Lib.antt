@@ -3,3 +3,4 @@ mod PassLemmas
 mod ReceiptLemmas
 mod GroupLemmas
 mod HotLemmas
+mod MadeLemmas

@@ -4,7 +4,8 @@
 
 ghost use Rattle.std.specs.Prelude.{◌≡◌, ◌≤◌, ℕ, [], ◌∷◌, length, map, All, Err, Some, IfOk};
 ghost use Rattle.air_history.specs.Histories.{starts};
-ghost use Rattle.air_model.specs.Decks.{count_made};
+ghost use Rattle.air_history.specs.declared.histories.Event.TheVariants.{Commit};
+ghost use Rattle.air_model.specs.DeckLaws.{made_by};
 ghost use Rattle.air_model.specs.declared.reports.LookLine.{LookLine};
 ghost use Rattle.air_devices.specs.Masts.{SentBuckets, nothing_sent};
 ghost use Rattle.thread_pins.specs.SmallBatches.{adds_to};
@@ -39,7 +40,8 @@ pub fn every_look_of_monitor_0<R: Threads + Wait + Sync, M: Mast + Send, G: Gate
     run_threads(rt, alloc, planned, mast, gate)
 }
 
-/// The history of a run has the one update of the second updater, though the first has none.
+/// The history of a run has the two updates of the second updater, each once and in order, though the first has none. It also refuses one update
+/// that is made twice, or for the other.
 /// Promise: run prints what it aired
 pub fn one_updater_done_for_all<R: Threads + Wait + Sync, M: Mast + Send, G: Gate + Sync>(
     rt: &R,
@@ -48,8 +50,9 @@ pub fn one_updater_done_for_all<R: Threads + Wait + Sync, M: Mast + Send, G: Gat
     mast: &mut M,
     gate: &G,
 ) -> Result<Run, RunFault>
-    requires { planned.now.updates ≡ [] ∷ (adds_to 1 0 3 ∷ []) ∷ [] }
-    ensures { IfOk result (λ run. count_made 1 run.history ≡ 1) }
+    requires { planned.now.updates ≡ [] ∷ (adds_to 1 0 3 ∷ adds_to 0 1 1 ∷ []) ∷ [] }
+    ensures second { IfOk result (λ run. made_by 1 run.history ≡ Commit 1 0 (adds_to 1 0 3) ∷ Commit 1 1 (adds_to 0 1 1) ∷ []) }
+    ensures first { IfOk result (λ run. made_by 0 run.history ≡ []) }
 {
     run_threads(rt, alloc, planned, mast, gate)
 }
