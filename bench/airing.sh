@@ -1,7 +1,7 @@
 #!/usr/bin/env bash
 # How many bytes a second a cycle of 256 items is aired into a mast that gathers a tape, compared with a plain copy of as many bytes.
 # Usage: bench/airing.sh [RUNS]. Prints a table; each figure is the median of the runs: `anew` where one tape of 1,000
-# cycles takes memory that was never touched, `again` where each cycle has its own tape. The program is bench/airing.txt.
+# cycles takes memory that was never touched, `again` where each cycle has its own tape. The program is bench/airing.rt.txt.
 set -u
 cd "$(dirname "$0")/.." || exit 1
 runs=${1:-11}

@@ -1,6 +1,6 @@
 #!/usr/bin/env bash
 # How long `Board::apply` takes on boards of 64, 256 and 1,024 items, with updates of four reads and two writes.
-# Usage: bench/board.sh [RUNS]. Prints a table; each time is the median of the runs. The program is bench/board.txt.
+# Usage: bench/board.sh [RUNS]. Prints a table; each time is the median of the runs. The program is bench/board.rt.txt.
 set -u
 cd "$(dirname "$0")/.." || exit 1
 runs=${1:-11}

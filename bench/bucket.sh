@@ -1,7 +1,7 @@
 #!/usr/bin/env bash
 # How many bytes a second `encode` writes and `decode` reads in version 1, compared with a plain copy of the same bytes: a million column buckets
 # of 256 entries each; and how many entries a second `decode` looks at in version 1 and in version 2.
-# Usage: bench/bucket.sh [RUNS]. Prints a line for each run. The program is bench/bucket.txt.
+# Usage: bench/bucket.sh [RUNS]. Prints a line for each run. The program is bench/bucket.rt.txt.
 set -u
 cd "$(dirname "$0")/.." || exit 1
 runs=${1:-5}

@@ -1,9 +1,10 @@
 # Sourced by the benches, which run at the top of the repository.
 #
-# `build NAME USED..` proves and builds the program of `bench/NAME.txt`, which uses these crates, in a scratch folder next to a
+# `build NAME USED..` proves and builds the program of `bench/NAME.rt.txt`, which uses these crates, in a scratch folder next to a
 # copy of them and of the crates that they depend on: so the repository keeps no crate that only measures. `scratch` is that
-# folder, which goes when the bench ends, and `program` the program. A proof of its function F is `bench/NAME_proof_F.txt`,
-# what holds between the rounds of its loops `bench/NAME_loops_F.txt`; a method is `TYPE.METHOD`.
+# folder, which goes when the bench ends, and `program` the program. A proof of its function F is `bench/NAME_proof_F.antt.txt`,
+# what holds between the rounds of its loops `bench/NAME_loops_F.antt.txt`; a method is `TYPE.METHOD`. The names end with .txt, since
+# `rt ci` refuses sources that are in no crate.
 #
 # `beside SIZE OURS OTHER` makes a table, under these heads, of lines with a size and how many a second went each way: the
 # median of each over the lines of a size, and the time of ours by that of the other.
@@ -34,18 +35,18 @@ build() {
     made=$scratch/crates/${name}_bench
     echo "${name}_bench: $*" >>"$scratch/crates.txt"
     mkdir -p "$made/src"
-    cp "bench/$name.txt" "$made/src/main.rt" || exit 1
+    cp "bench/$name.rt.txt" "$made/src/main.rt" || exit 1
     touch "$made/stdin"
-    for proof in "bench/${name}"_proof_*.txt; do
+    for proof in "bench/${name}"_proof_*.antt.txt; do
         [ -f "$proof" ] || continue
         crate=${proof#"bench/${name}_proof_"}
-        mkdir -p "$made/proofs/${crate%.txt}"
-        cp "$proof" "$made/proofs/${crate%.txt}/Answers.antt"
+        mkdir -p "$made/proofs/${crate%.antt.txt}"
+        cp "$proof" "$made/proofs/${crate%.antt.txt}/Answers.antt"
     done
-    for proof in "bench/${name}"_loops_*.txt; do
+    for proof in "bench/${name}"_loops_*.antt.txt; do
         [ -f "$proof" ] || continue
         crate=${proof#"bench/${name}_loops_"}
-        crate=${crate%.txt}
+        crate=${crate%.antt.txt}
         mkdir -p "$made/proofs/${crate//.//}"
         cp "$proof" "$made/proofs/${crate//.//}/Invariants.antt"
     done

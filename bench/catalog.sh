@@ -2,7 +2,7 @@
 # How long `read_deck` takes, and how much memory, compared with a bare pass over the records of the same text.
 # Usage: bench/catalog.sh [RUNS]. Prints a table; pass and deck are run in turns, and each time is the least of the runs, as
 # other work on the machine only adds to it. Each memory is the peak of the process that GNU time tells (a dash where it is
-# not installed), with that of reading the file alone before it. The program is bench/catalog.txt.
+# not installed), with that of reading the file alone before it. The program is bench/catalog.rt.txt.
 set -u
 cd "$(dirname "$0")/.." || exit 1
 runs=${1:-9}

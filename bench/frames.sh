@@ -1,7 +1,7 @@
 #!/usr/bin/env bash
 # How many looks a second four monitors make next to a publisher, and how much they slow it down, with frames of 16, 64 and 256
 # items. Usage: bench/frames.sh [RUNS]. Prints a table; each figure is the median of the runs: batches of two commits a second,
-# made and published, alone and next to the monitors, and the looks a second of all four. The program is bench/frames.txt.
+# made and published, alone and next to the monitors, and the looks a second of all four. The program is bench/frames.rt.txt.
 set -u
 cd "$(dirname "$0")/.." || exit 1
 runs=${1:-11}

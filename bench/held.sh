@@ -1,7 +1,7 @@
 #!/usr/bin/env bash
 # How long `Held::clashes` takes with 1, 4 and 16 held reads over 64, 256 and 1,024 items, compared with a plain program that tests
 # each held read in both directions. Usage: bench/held.sh [RUNS]. Prints a table in nanoseconds, each the median of the runs,
-# and how many times as long as the plain program `clashes` takes. The program is bench/held.txt.
+# and how many times as long as the plain program `clashes` takes. The program is bench/held.rt.txt.
 set -u
 cd "$(dirname "$0")/.." || exit 1
 runs=${1:-11}

@@ -2,7 +2,7 @@
 # How long `PixCache::keep` and `PixCache::get` take at rooms 8, 64 and 256 over 512 items. Each keep is of a newcomer that finds
 # room or takes that of the least copy, with the drop of a copy to come; `replace` is a keep of an item that has one. Compared with them
 # is a bare copy of a column. Usage: bench/kept.sh [RUNS]. Prints a table in nanoseconds, each the median of the runs. The
-# program is bench/kept.txt.
+# program is bench/kept.rt.txt.
 set -u
 cd "$(dirname "$0")/.." || exit 1
 runs=${1:-11}

@@ -1,7 +1,7 @@
 #!/usr/bin/env bash
 # How long the kernels of `air_lanes` take for a row of 8, 64, 256, 1,024 and 65,535 entries, compared with a plain loop and with a
 # plain copy of the row. Usage: bench/lanes.sh [RUNS]. Prints a table in nanoseconds, each the median of the runs, and how fast
-# the kernel is compared with the copy. The program is bench/lanes.txt.
+# the kernel is compared with the copy. The program is bench/lanes.rt.txt.
 set -u
 cd "$(dirname "$0")/.." || exit 1
 runs=${1:-5}

@@ -1,7 +1,7 @@
 #!/usr/bin/env bash
 # How long `Program::plan` takes: on a deck of 256 items on eight disks whose program has 16,384 slots, and on 100 random
 # decks. Usage: bench/plan.sh [RUNS]. Prints a table; each time is the median of the runs, for 100 plans of the first deck
-# and for a plan of each random deck. The program is bench/plan.txt.
+# and for a plan of each random deck. The program is bench/plan.rt.txt.
 set -u
 cd "$(dirname "$0")/.." || exit 1
 runs=${1:-11}

@@ -4,7 +4,7 @@
 # about this many bytes (134,217,728 where none are told, the limit of a report). Pass and report are read in turns, and each time
 # is the least of the runs, as other work on the machine only adds to it. Each memory is the peak of the process that GNU time
 # tells (a dash where it is not installed), with that of reading the files alone before it; a line is what the report takes more,
-# by the number of lines. The program is bench/reports.txt.
+# by the number of lines. The program is bench/reports.rt.txt.
 set -u
 cd "$(dirname "$0")/.." || exit 1
 size=${1:-134217728}
