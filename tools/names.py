@@ -1,4 +1,4 @@
-"""The names that clauses, definitions, examples and laws of the repository use: `tools/believed` and `tools/mutate_specs` go by these."""
+"""The names that clauses, definitions, examples and laws of the repository use: `tools/believed` and `tools/mutation/mutate_specs` go by these."""
 import os
 import re
 

@@ -1,10 +1,10 @@
-"""The changes of a definition, each of one line: what `tools/mutate_specs` tries."""
+"""The changes of a definition, each of one line: what `tools/mutation/mutate_specs` tries."""
 import hashlib
 import os
 import re
 import sys
 
-sys.path.insert(0, os.path.dirname(os.path.abspath(__file__)))
+sys.path[:0] = [os.path.dirname(os.path.abspath(__file__)), os.path.dirname(os.path.dirname(os.path.abspath(__file__)))]
 import names as believed  # noqa: E402
 
 # What is changed into what, with the names that the change needs. The first group is replaced.

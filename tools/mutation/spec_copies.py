@@ -1,9 +1,9 @@
-"""Copies of definitions and of examples under other names: `tools/mutate_specs` tries many changes of one crate in one check by them."""
+"""Copies of definitions and of examples under other names: `tools/mutation/mutate_specs` tries many changes of one crate in one check by them."""
 import os
 import re
 import sys
 
-sys.path.insert(0, os.path.dirname(os.path.abspath(__file__)))
+sys.path[:0] = [os.path.dirname(os.path.abspath(__file__)), os.path.dirname(os.path.dirname(os.path.abspath(__file__)))]
 import names  # noqa: E402
 from spec_changes import imported  # noqa: E402
 from spec_pieces import module, plain  # noqa: E402

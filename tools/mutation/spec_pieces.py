@@ -1,9 +1,9 @@
-"""The declarations of specs and proofs, and what each names: `tools/mutate_specs` goes by them."""
+"""The declarations of specs and proofs, and what each names: `tools/mutation/mutate_specs` goes by them."""
 import os
 import re
 import sys
 
-sys.path.insert(0, os.path.dirname(os.path.abspath(__file__)))
+sys.path[:0] = [os.path.dirname(os.path.abspath(__file__)), os.path.dirname(os.path.dirname(os.path.abspath(__file__)))]
 import names  # noqa: E402
 
 MARKS = r"(?:(?:abbrev|unfoldable) )?(?:pub )?(?:record |data )?"

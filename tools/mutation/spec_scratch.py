@@ -1,11 +1,11 @@
-"""A copy of the repository in which `tools/mutate_specs` changes one crate at a time, and what checks of it refuse."""
+"""A copy of the repository in which `tools/mutation/mutate_specs` changes one crate at a time, and what checks of it refuse."""
 import os
 import re
 import shutil
 import subprocess
 import sys
 
-sys.path.insert(0, os.path.dirname(os.path.abspath(__file__)))
+sys.path[:0] = [os.path.dirname(os.path.abspath(__file__)), os.path.dirname(os.path.dirname(os.path.abspath(__file__)))]
 import names as believed  # noqa: E402
 from spec_changes import with_import  # noqa: E402
 from spec_pieces import module  # noqa: E402
