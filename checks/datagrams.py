@@ -1,4 +1,4 @@
-"""The datagrams that `.ci/air` has dissected and heard, and their bytes by their fields: buckets of both versions, and bytes that are none. Wanted values are in docs/FORMATS.md."""
+"""The datagrams that `checks/air` has dissected and heard, and their bytes by their fields: buckets of both versions, and bytes that are none. Wanted values are in docs/FORMATS.md."""
 import struct
 
 

@@ -1,4 +1,4 @@
-"""Tries `cast` and `listen` of the built program at once, for .ci/air: that the datagrams of a cast are those of its history and then the end, three
+"""Tries `cast` and `listen` of the built program at once, for checks/air: that the datagrams of a cast are those of its history and then the end, three
 times, that each listener ends, that a rate is kept and spreads the updates, that a silence is an end and with 0 none is, and what a listener says
 on a terminal.
 """

@@ -1,4 +1,4 @@
-"""A draw of `.ci/small` with its files: what the receivers in C have to make of it, compared with what they print."""
+"""A draw of `checks/small` with its files: what the receivers in C have to make of it, compared with what they print."""
 import os
 import sys
 
