@@ -16,7 +16,7 @@ use Rattle.air_history.proofs.MarkLemmas.{Forgets, IsOpen, Seeks, writes_some}
 use Rattle.air_history.proofs.PlaceLemmas.{any_at}
 use Rattle.air_history.proofs.ScanLemmas.{before_more}
 use Rattle.live_replay.specs.Findings.{read_in_cycle}
-use Rattle.live_replay.specs.Private.Alone.{overwrites_read, first_or_none, is_after, is_met}
+use Rattle.live_replay.specs.Private.Alone.{overwrites_read, is_met}
 use Rattle.live_replay.proofs.AloneLemmas.{alone_below, alone_closed, alone_origin, alone_step, consistent_from}
 use Rattle.live_replay.proofs.SoughtLemmas.{not_written, read_sought, sought_read, writes_are, written_one}
 
@@ -161,19 +161,9 @@ module _ (H : List Event) (R : List ReadAt) where
     ];
   }
 
-  not_after : (o : Option ℕ) (q : ℕ) → q < first_or_none o → is_after o q ≡ true → ⊥
-  not_after None q l h = absurd (omega arith)
-  not_after (Some w) q l h = let lt = ltb-true w q h in absurd (omega arith)
-
-  -- Before the first origin nothing comes late, so the reads are consistent.
-  pub passed_all : (first at : ℕ) (sought : List Bool) → at ≤ first → All (λ o. first ≤ first_or_none o) (map (origin H) R) → IsPassed H R at sought → consistent H R ≡ true
+  -- Before the first place nothing comes late, so the reads are consistent.
+  pub passed_all : (first at : ℕ) (sought : List Bool) → at ≤ first → ((q : ℕ) → overwrites_read H R q ≡ true → first ≤ q) → IsPassed H R at sought → consistent H R ≡ true
   passed_all first at sought low all m = consistent_from H R (λ q a. elim (cases_lt q first) as (λ _. overwrites_read H R q ≡ false) [
-    | inl before ↦ false_from_ne_true _ (λ late.
-        let d : ReadAt = read_in_cycle 0 0 in
-        let f = any_at (λ r. writes (event_at H q) r.item && is_after (origin H r) q) R d late in
-        let both = and_parts (writes (event_at H q) (get_or R f.0 d).item) (is_after (origin H (get_or R f.0 d)) q) f.2 in
-        let its : first ≤ first_or_none (origin H (get_or R f.0 d)) =
-        subst (λ o. first ≤ first_or_none o) (get_or-map (origin H) R f.0 d None f.1) (all f.0 None (omega (arith, f.1, length-map R (origin H)))) in
-        not_after (origin H (get_or R f.0 d)) q (omega arith) both.1)
+    | inl before ↦ false_from_ne_true _ (λ late. absurd (let far = all q late in omega arith))
     | inr beyond ↦ m.none_late q (omega arith) a
   ])

@@ -26,7 +26,7 @@ push_least (u ∷ ws) v e rest low = All-push (λ (w : ItemWrite). u.place ≤ w
 
 module _ (V : List ℕ) (H : List Event) (i : ℕ) where
   -- What holds of the place of a write holds of one of the writes.
-  any_write : (f : ℕ → Bool) (m n p : ℕ) → m ≤ p → p < m + n → writes (event_at H p) i ≡ true → f p ≡ true → list_any (λ w. f w.place) (writes_from V H i m n) ≡ true
+  pub any_write : (f : ℕ → Bool) (m n p : ℕ) → m ≤ p → p < m + n → writes (event_at H p) i ≡ true → f p ≡ true → list_any (λ w. f w.place) (writes_from V H i m n) ≡ true
   unfolding writes_from write_at
   any_write f m zero p low high wrote passes = absurd (omega arith)
   any_write f m (suc n) p low high wrote passes = elim (cases_lt p (m + n)) as (λ _. list_any (λ w. f w.place) (writes_from V H i m (suc n)) ≡ true) [
@@ -39,7 +39,7 @@ module _ (V : List ℕ) (H : List Event) (i : ℕ) where
   ]
 
   -- The first of the writes is at the first place.
-  first_least : (m n : ℕ) (e : ItemWrite) → All (λ w. (get_or (writes_from V H i m n) 0 e).place ≤ w.place) (writes_from V H i m n)
+  pub first_least : (m n : ℕ) (e : ItemWrite) → All (λ w. (get_or (writes_from V H i m n) 0 e).place ≤ w.place) (writes_from V H i m n)
   unfolding writes_from write_at
   first_least m zero e = All-nil (λ (w : ItemWrite). e.place ≤ w.place)
   first_least m (suc n) e = more (writes (event_at H (m + n)) i) (first_least m n e) (each_write V H i (λ w. w.place < m + n) m n (λ p low high wrote. high))

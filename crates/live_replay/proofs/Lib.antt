@@ -8,6 +8,7 @@ pub mod GroupClashLemmas
 pub mod LastLemmas
 pub mod SoughtLemmas
 pub mod AloneLemmas
+pub mod NextLemmas
 pub mod BackwardLemmas
 pub mod MarkedLemmas
 pub mod GroupReadLemmas

@@ -1,16 +1,16 @@
 //! Whether reads are consistent: one backward walk over the commits from which they descend.
 //!
-//! When these commits run alone, none of them may write a read's item after that read's origin. The walk begins at the last origin and
-//! ends at the first one, or at the first commit that writes an item of a read after the read's origin.
+//! When these commits run alone, none of them may write a read's item after that read's origin. The walk begins at the last origin. It ends
+//! at the first write that follows one of the origins, so there is no walk if no item was written again before the last origin.
 
-ghost use Rattle.std.specs.Prelude.{◌≡◌, ◌≤◌, ◌<◌, ◌&&◌, ℕ, false, length, get_or, map, All, IfOk, IfSome, Some};
+ghost use Rattle.std.specs.Prelude.{◌≡◌, ◌≤◌, ◌<◌, ◌&&◌, ℕ, true, false, length, get_or, map, All, IfOk, IfSome, Some};
 ghost use Rattle.std.specs.List.{list_any};
 ghost use Rattle.air_history.specs.Consistency.{consistent};
-ghost use Rattle.air_history.specs.Histories.{ItemsFit, writes};
+ghost use Rattle.air_history.specs.Histories.{ItemsFit, event_at, writes};
 ghost use Rattle.air_history.specs.Places.{same_place};
 ghost use Rattle.air_history.specs.Reads.{origin};
-ghost use Rattle.live_replay.specs.Findings.{places_read};
-ghost use Rattle.live_replay.specs.Private.Alone.{overwrites_read, first_or_none, is_after, is_met};
+ghost use Rattle.live_replay.specs.Findings.{place_of_line, places_read};
+ghost use Rattle.live_replay.specs.Private.Alone.{overwrites_read, is_after, is_met};
 
 use crate::replay::{Replay, same_place};
 use crate::sought::{forget_written, none_set, seek_read, writes_sought};
@@ -48,23 +48,20 @@ pub fn end_of(count: usize, origins: &[Option<u64>]) -> usize
     end
 }
 
-/// The place of an origin, 0 if there is none.
-fn first_or_none(origin: Option<u64>) -> u64
-    ensures { result ≡ first_or_none origin }
+/// A place before which no commit writes a read's item after its origin.
+fn first_after(replay: &Replay<'_>, read: &ReadOf) -> u64
+    ensures { (q : ℕ) → (writes (event_at replay.now.history q) read.now.item && is_after (origin replay.now.history (place_of_line read.now)) q) ≡ true → result ≤ q }
 {
-    match origin {
-        None => 0,
-        Some(place) => place,
-    }
+    replay.next_write(read.item, read.cycle)
 }
 
-/// The place of the first origin, 0 if a read has none.
-fn first_of(origins: &[Option<u64>]) -> u64
-    ensures { All (λ o. result ≤ first_or_none o) origins.now }
+/// A place before which no commit writes the item of one of the reads after its origin.
+fn first_late(replay: &Replay<'_>, reads: &[ReadOf]) -> u64
+    ensures { (q : ℕ) → overwrites_read replay.now.history (places_read reads.now) q ≡ true → result ≤ q }
 {
-    let mut first = u64::MAX;
-    for origin in origins {
-        first = first.min(first_or_none(*origin));
+    let mut first = replay.events().len() as u64;
+    for read in reads {
+        first = first.min(first_after(replay, read));
     }
     first
 }
@@ -123,20 +120,24 @@ fn overwrites_read(
     false
 }
 
-/// Whether the reads of these origins are consistent. The items that are looked for are none to begin with.
+/// Whether the reads of these origins are consistent. No commit before the first place comes late for them, and there is no origin from
+/// the end on. The items that are looked for are none to begin with.
 fn none_late(
     events: &[Event],
     reads: &[ReadOf],
     origins: &[Option<u64>],
+    first: usize,
+    end: usize,
     sought: &mut [bool],
 ) -> bool
     requires origins { origins.now ≡ map (origin events.now) (places_read reads.now) }
+    requires first { (q : ℕ) → overwrites_read events.now (places_read reads.now) q ≡ true → first ≤ q }
+    requires within { end ≤ length events.now }
+    requires end { All (λ o. IfSome o (λ w. w < end)) origins.now }
     requires fits { All (ItemsFit (length sought.old)) events.now }
     requires clear { (i : ℕ) → get_or sought.old i false ≡ false }
     ensures { result ≡ consistent events.now (places_read reads.now) }
 {
-    let first = first_of(origins) as usize;
-    let end = end_of(events.len(), origins);
     for at in (first..end).rev() {
         if is_met(events, at, origins, sought) {
             if overwrites_read(events, at, reads, origins) {
@@ -153,7 +154,10 @@ fn none_late(
 pub fn is_consistent(alloc: Global, replay: &Replay<'_>, reads: &[ReadOf]) -> Result<bool, NoMemory>
     ensures { IfOk result (λ told. told ≡ consistent replay.now.history (places_read reads.now)) }
 {
+    let events = replay.events();
     let origins = origins_of(alloc, replay, reads)?;
+    let first = first_late(replay, reads) as usize;
+    let end = end_of(events.len(), &origins);
     let mut sought = none_set(alloc, replay.items() as usize)?;
-    Ok(none_late(replay.events(), reads, &origins, &mut sought))
+    Ok(none_late(events, reads, &origins, first, end, &mut sought))
 }

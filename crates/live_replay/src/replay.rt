@@ -2,9 +2,9 @@
 //!
 //! The history is run once. This keeps the writes of each item, with their places. A search there finds a read's origin and value.
 
-ghost use Rattle.std.specs.Prelude.{◌≡◌, ◌<◌, length, All, IfOk};
+ghost use Rattle.std.specs.Prelude.{◌≡◌, ◌<◌, ◌≤◌, ℕ, true, length, All, IfOk};
 ghost use Rattle.air_history.specs.Columns.{has_groups};
-ghost use Rattle.air_history.specs.Histories.{ItemsFit};
+ghost use Rattle.air_history.specs.Histories.{ItemsFit, event_at, front, writes};
 ghost use Rattle.air_history.specs.Places.{same_place};
 ghost use Rattle.air_history.specs.Reads.{origin, read_value, same_origin};
 ghost use Rattle.air_history.specs.Tables.{values_of};
@@ -13,7 +13,7 @@ ghost use Rattle.air_model.specs.Decks.{values_in};
 ghost use Rattle.air_model.specs.Reports.{total_at};
 ghost use Rattle.live_replay.specs.Findings.{read_in_cycle};
 ghost use Rattle.live_replay.specs.Private.Groups.{writes_between};
-ghost use Rattle.live_replay.specs.Private.Writes.{count_at, writes_from};
+ghost use Rattle.live_replay.specs.Private.Writes.{count_at, writes_after, writes_from};
 
 use crate::running::ReplayState;
 use crate::writes::{ItemWrite, ItemWrites};
@@ -171,6 +171,30 @@ impl<'a> Replay<'a> {
             return &[];
         }
         &self.writes(item).as_slice()[first..end]
+    }
+
+    /// The writes of an item from a cycle on, in order.
+    fn writes_from(&self, item: u16, cycle: u32) -> &[ItemWrite]
+        requires { item < length self.now.deck.items }
+        ensures { result.now ≡ writes_after (values_in self.now.deck) self.now.history item cycle }
+    {
+        let before = self.writes_before(item, cycle);
+        &self.writes(item).as_slice()[before..]
+    }
+
+    /// A place before which no commit from a cycle on writes an item: that of the first such commit, or that after the last event if
+    /// there is none; 0 if the deck doesn't have the item.
+    pub fn next_write(&self, item: u16, cycle: u32) -> u64
+        ensures { (q : ℕ) → writes (event_at self.now.history q) item ≡ true → length (front self.now.history cycle) ≤ q → result ≤ q }
+    {
+        if item >= self.deck.items() {
+            return 0;
+        }
+        let writes = self.writes_from(item, cycle);
+        if writes.is_empty() {
+            return self.history.len();
+        }
+        writes[0].place
     }
 
     /// The value of an item at a cycle's start.

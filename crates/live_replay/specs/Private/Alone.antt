@@ -6,11 +6,6 @@ use Rattle.air_history.specs.Histories.{event_at, writes, writes_of}
 use Rattle.air_history.specs.Places.{same_place}
 use Rattle.air_history.specs.Reads.{ReadAt, origin}
 
--- The place of an origin, 0 if there is none.
-abbrev pub first_or_none : Option ℕ → ℕ
-first_or_none None = 0
-first_or_none (Some w) = w
-
 -- Whether a place comes after an origin; if there is none, each place does.
 abbrev pub is_after : Option ℕ → ℕ → Bool
 is_after None p = true

@@ -4,27 +4,19 @@ use Rattle.air_history.specs.Reads.{origin}
 use Rattle.air_history.proofs.ColumnLemmas.{writes_fit}
 use Rattle.air_history.proofs.MarkLemmas.{Forgets, Seeks, forgets_of, seeks_of}
 use Rattle.live_replay.specs.Findings.{places_read}
-use Rattle.live_replay.specs.Private.Alone.{first_or_none, is_met}
-use Rattle.live_replay.proofs.AloneLemmas.{consistent_fails, origins_within}
+use Rattle.live_replay.specs.Private.Alone.{is_met}
+use Rattle.live_replay.proofs.AloneLemmas.{consistent_fails}
 use Rattle.live_replay.proofs.BackwardLemmas.{IsPassed, met_alone, passed_all, passed_more, passed_none, passed_skip}
 use Rattle.live_replay.proofs.SoughtLemmas.{reads_fit}
 use Rattle.live_replay.proofs.alone.none_late.Goals as goal
 
-pub end_of-end-requires : goal.end_of-end-requires
-end_of-end-requires c =
-    let H = c.args.events.now in
-    subst (All (λ o. IfSome o (λ w. w < length H))) (sym c.requires.origins) (origins_within H (places_read c.args.reads.now))
-
 pub loop-at-init : goal.loop-at-init
 loop-at-init c =
-    passed_none c.args.events.now (places_read c.args.reads.now) c.end_of-end.result c.args.sought.now c.requires.clear
-    (subst (All (λ o. IfSome o (λ w. w < c.end_of-end.result))) c.requires.origins c.end_of-end.ensures.all)
+    passed_none c.args.events.now (places_read c.args.reads.now) c.args.end c.args.sought.now c.requires.clear
+    (subst (All (λ o. IfSome o (λ w. w < c.args.end))) c.requires.origins c.requires.end)
 
 pub returns : goal.returns
-returns c =
-    let H = c.args.events.now in
-    sym (passed_all H (places_read c.args.reads.now) c.first_of-first.result c.loop-at.at c.loop-at.sought (omega arith)
-    (subst (All (λ o. c.first_of-first.result ≤ first_or_none o)) c.requires.origins c.first_of-first.ensures) c.loop-at.invariant)
+returns c = sym (passed_all c.args.events.now (places_read c.args.reads.now) c.args.first c.loop-at.at c.loop-at.sought (omega arith) c.requires.first c.loop-at.invariant)
 
 pub is_met-requires-clause-fits : goal.is_met-requires-clause-fits
 is_met-requires-clause-fits c = subst (λ n. All (ItemsFit n) c.args.events.now) (sym c.loop-at.auto.sought) c.requires.fits
