@@ -77,7 +77,7 @@ module _ (H : List Event) where
         let below : v.0 < end = subst (λ o. IfSome o (λ w. w < end)) at (all s.0 None (omega (arith, s.1, length-map R (origin H)))) in
         omega arith
 
-    origin_within : (r : ReadAt) → IfSome (origin H r) (λ w. w < length H)
+    pub origin_within : (r : ReadAt) → IfSome (origin H r) (λ w. w < length H)
     origin_within r = by (origin H r) refl
       where
         by : (o : Option ℕ) → origin H r ≡ o → IfSome o (λ w. w < length H)
@@ -128,6 +128,11 @@ module _ (H : List Event) where
         last_place_from (length H) (λ p. runs_alone H R p && writes (event_at H p) r.item) (origin H r)
         (last_origin r (origin H r) refl (λ q e. alone_origin q k d l e) (λ q a. false_from_ne_true _ (λ late.
         both_ways (overwrites_read H R q) (none q a) (list_any_at (λ r. writes (event_at H q) r.item && is_after (origin H r) q) R k d l late)))))
+
+    -- So they are if each commit that can come late is after the last origin.
+    pub consistent_between : (first end : ℕ) → end ≤ first → ((q : ℕ) → overwrites_read H R q ≡ true → first ≤ q) →
+        All (λ o. IfSome o (λ w. w < end)) (map (origin H) R) → consistent H R ≡ true
+    consistent_between first end le low all = consistent_from (λ q a. false_from_ne_true _ (λ late. absurd (let far = low q late in let near = alone_below end q all a in omega arith)))
 
     late_apart : (i q : ℕ) (o : Option ℕ) → last_alone H R i ≡ o → runs_alone H R q ≡ true → writes (event_at H q) i ≡ true → is_after o q ≡ true → ⊥
     unfolding last_alone

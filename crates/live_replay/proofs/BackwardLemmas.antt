@@ -1,7 +1,7 @@
 -- A backward pass over the commits that run alone for some reads: what is known at each place.
-use Rattle.std.proofs.Common.{◌≡◌, ℕ, ◌+◌, ◌<◌, ◌≤◌, Bool, true, false, not, ◌&&◌, ◌==◌, ◌⊎◌, Option, Some, None, IfSome, List, length, get_or, map, All, refl, sym, ◌∙◌, ap, subst, inl, inr, arith, IsTrue}
+use Rattle.std.proofs.Common.{◌≡◌, ℕ, ◌+◌, ◌<◌, ◌≤◌, Bool, true, false, not, ◌==◌, ◌⊎◌, Option, Some, None, IfSome, List, length, get_or, map, All, refl, sym, ◌∙◌, ap, subst, inl, inr, arith, IsTrue}
 use Rattle.std.specs.List.{list_any}
-use Rattle.std.proofs.lemmas.Bool.{and_from, and_parts, both_ways, cases_Bool, cases_eq, cases_lt, eq-eqb, false_from_ne_true, ltb-true, or_cases, or_left, or_parts, or_right}
+use Rattle.std.proofs.lemmas.Bool.{and_from, and_parts, both_ways, cases_Bool, cases_eq, cases_lt, eq-eqb, false_from_ne_true, or_cases, or_left, or_parts, or_right}
 use Rattle.std.proofs.lemmas.List.{get_or-map, length-map}
 use Rattle.std.proofs.lemmas.List.Folds.{list_any_at}
 use Rattle.air_history.specs.declared.histories.Event.{Event}

@@ -150,14 +150,56 @@ fn none_late(
     true
 }
 
-/// Whether the reads are consistent.
+/// The place after a read's origin, 0 if there is none.
+fn end_after(replay: &Replay<'_>, read: &ReadOf) -> u64
+    ensures within { result ≤ length replay.now.history }
+    ensures after { IfSome (origin replay.now.history (place_of_line read.now)) (λ w. w < result) }
+{
+    let _events = replay.events().len();
+    match replay.origin(read.item, read.cycle) {
+        None => 0,
+        Some(place) => place + 1,
+    }
+}
+
+/// The place after the last origin of the reads, 0 if there is none.
+fn end_of_all(replay: &Replay<'_>, reads: &[ReadOf]) -> u64
+    ensures within { result ≤ length replay.now.history }
+    ensures all { All (λ o. IfSome o (λ w. w < result)) (map (origin replay.now.history) (places_read reads.now)) }
+{
+    let mut end = 0;
+    for read in reads {
+        end = end.max(end_after(replay, read));
+    }
+    end
+}
+
+/// Whether the reads are consistent, by a walk from the end back to the first place.
+fn walk(
+    alloc: Global,
+    replay: &Replay<'_>,
+    reads: &[ReadOf],
+    first: usize,
+    end: usize,
+) -> Result<bool, NoMemory>
+    requires first { (q : ℕ) → overwrites_read replay.now.history (places_read reads.now) q ≡ true → first ≤ q }
+    requires within { end ≤ length replay.now.history }
+    requires end { All (λ o. IfSome o (λ w. w < end)) (map (origin replay.now.history) (places_read reads.now)) }
+    ensures { IfOk result (λ told. told ≡ consistent replay.now.history (places_read reads.now)) }
+{
+    let origins = origins_of(alloc, replay, reads)?;
+    let mut sought = none_set(alloc, replay.items() as usize)?;
+    Ok(none_late(replay.events(), reads, &origins, first, end, &mut sought))
+}
+
+/// Whether the reads are consistent. If no write that can come late for one of them is before the last origin, they are.
 pub fn is_consistent(alloc: Global, replay: &Replay<'_>, reads: &[ReadOf]) -> Result<bool, NoMemory>
     ensures { IfOk result (λ told. told ≡ consistent replay.now.history (places_read reads.now)) }
 {
-    let events = replay.events();
-    let origins = origins_of(alloc, replay, reads)?;
-    let first = first_late(replay, reads) as usize;
-    let end = end_of(events.len(), &origins);
-    let mut sought = none_set(alloc, replay.items() as usize)?;
-    Ok(none_late(events, reads, &origins, first, end, &mut sought))
+    let first = first_late(replay, reads);
+    let end = end_of_all(replay, reads);
+    if end <= first {
+        return Ok(true);
+    }
+    walk(alloc, replay, reads, first as usize, end as usize)
 }

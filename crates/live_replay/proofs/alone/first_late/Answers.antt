@@ -1,11 +1,9 @@
-use Rattle.std.proofs.Common.{◌≡◌, ◌<◌, ◌≤◌, true, [], length, get_or, ap, ◌∙◌, sym, inl, inr, subst, arith}
-use Rattle.std.proofs.lemmas.Bool.{and_parts, cases_lt}
+use Rattle.std.proofs.Common.{◌<◌, [], length, ap, ◌∙◌, sym, arith}
 use Rattle.std.proofs.lemmas.List.{get_or-map, length-map}
 use Rattle.air_base.specs.declared.verdicts.ReadOf.{ReadOf}
 use Rattle.air_history.proofs.PlaceLemmas.{any_at}
 use Rattle.live_replay.specs.Findings.{place_of_line, places_read, read_in_cycle}
 use Rattle.live_replay.proofs.AloneLemmas.{is_late_for}
-use Rattle.live_replay.proofs.NextLemmas.{late_from}
 use Rattle.live_replay.proofs.alone.first_late.Goals as goal
 
 pub returns : goal.returns

@@ -1,4 +1,4 @@
-use Rattle.std.proofs.Common.{◌≡◌, ◌<◌, ◌≤◌, ◌+◌, ◌-◌, ℕ, true, false, All, IfSome, length, map, refl, sym, ap, subst, ◌∙◌, arith}
+use Rattle.std.proofs.Common.{◌≡◌, ◌<◌, ◌+◌, ◌-◌, ℕ, true, false, All, IfSome, length, map, refl, sym, ap, subst, ◌∙◌, arith}
 use Rattle.air_history.specs.Histories.{ItemsFit, event_at, reads, writes_of}
 use Rattle.air_history.specs.Reads.{origin}
 use Rattle.air_history.proofs.ColumnLemmas.{writes_fit}

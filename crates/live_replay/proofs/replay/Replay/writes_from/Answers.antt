@@ -1,7 +1,7 @@
 use Rattle.std.proofs.Common.{◌≡◌, ◌-◌, ◌≤◌, length, drop, ap, ◌∙◌, arith, length-drop}
 use Rattle.std.proofs.lemmas.List.{take_all}
 use Rattle.air_model.specs.Decks.{values_in}
-use Rattle.live_replay.specs.Private.Writes.{count_at, writes_from}
+use Rattle.live_replay.specs.Private.Writes.{writes_from}
 use Rattle.live_replay.proofs.LastLemmas.{count_within}
 use Rattle.live_replay.proofs.NextLemmas.{after_kept}
 use Rattle.live_replay.proofs.replay.Replay.writes_from.Goals as goal
