@@ -1,5 +1,6 @@
 -- What the last write of an item before a cycle tells: the read's origin and its value.
-use Rattle.std.proofs.Common.{◌≡◌, ℕ, zero, suc, ◌+◌, ◌-◌, ◌<◌, ◌≤◌, Bool, true, false, cond, Option, Some, None, List, [], ◌∷◌, ◌++◌, length, get_or, take, refl, sym, ◌∙◌, ap, subst, arith, add-one, zero-add}
+use Rattle.std.proofs.Common.{◌≡◌, ℕ, zero, suc, ◌+◌, ◌-◌, ◌<◌, ◌≤◌, Bool, true, false, cond, ◌==◌, Option, Some, None, List, [], ◌∷◌, ◌++◌, length, get_or, take, refl, sym, ◌∙◌, ap, subst, inl, inr, arith, add-one, zero-add}
+use Rattle.std.proofs.lemmas.Bool.{cases_eq, eq-eqb, ne_eqb}
 use Rattle.std.proofs.lemmas.List.{append-nil, length_push, length-append, get_or_push, get_or_append_left}
 use Rattle.air_history.specs.declared.histories.Event.{Event}
 use Rattle.air_history.specs.Histories.{writes, event_at, front, writer_before}
@@ -116,3 +117,11 @@ module _ (V : List ℕ) (H : List Event) (i : ℕ) where
   pub last_origin : (c : ℕ) (d : ItemWrite) → 0 < count_before c → origin H (read_in_cycle i c) ≡ Some (get_or (item_writes (length H)) (count_before c - 1) d).place
   unfolding write_at
   last_origin c d pos = let last = last_write c d pos in origin_at c ∙ last.1 ∙ ap (λ (w : ItemWrite). Some w.place) (sym last.2)
+
+  -- So the last of the writes before the cycle is the origin.
+  pub origin_of : (c n : ℕ) (d : ItemWrite) → n ≡ count_before c → cond (n == 0) None (Some (get_or (item_writes (length H)) (n - 1) d).place) ≡ origin H (read_in_cycle i c)
+  origin_of c n d e = elim (cases_eq n 0) as (λ _. cond (n == 0) None (Some (get_or (item_writes (length H)) (n - 1) d).place) ≡ origin H (read_in_cycle i c)) [
+    | inl none ↦ ap (λ b. cond b None (Some (get_or (item_writes (length H)) (n - 1) d).place)) (eq-eqb n 0 none) ∙ sym (no_origin c (sym e ∙ none))
+    | inr some ↦ ap (λ b. cond b None (Some (get_or (item_writes (length H)) (n - 1) d).place)) (ne_eqb n 0 some)
+        ∙ ap (λ (k : ℕ). Some (get_or (item_writes (length H)) (k - 1) d).place) e ∙ sym (last_origin c d (omega arith))
+  ]

@@ -1,7 +1,7 @@
 -- The first write of an item from a cycle on, and which commits can come late for a read.
-use Rattle.std.proofs.Common.{◌≡◌, ℕ, ◌+◌, ◌-◌, ◌<◌, ◌≤◌, true, ◌==◌, Option, Some, None, List, [], length, get_or, drop, refl, ◌∙◌, ap, subst, inl, inr, arith, zero-add}
+use Rattle.std.proofs.Common.{◌≡◌, ℕ, ◌+◌, ◌-◌, ◌<◌, ◌≤◌, true, ◌==◌, Option, Some, None, List, [], length, get_or, drop, refl, ◌∙◌, ap, subst, inl, inr, arith, zero-add, add-zero, length-drop, sym}
 use Rattle.std.proofs.lemmas.Bool.{and_parts, both_ways, cases_lt, eq-eqb, eqb-true, ltb-true}
-use Rattle.std.proofs.lemmas.List.{drop_at}
+use Rattle.std.proofs.lemmas.List.{drop_at, get_or-drop}
 use Rattle.air_history.specs.declared.histories.Event.{Event}
 use Rattle.air_history.specs.Histories.{writes, event_at, front}
 use Rattle.air_history.specs.Reads.{ReadAt, origin}
@@ -41,6 +41,16 @@ module _ (V : List ℕ) (H : List Event) (i c : ℕ) where
         let f = found in
         subst (λ p. (get_or (writes_after V H i c) 0 d).place ≤ p) (eqb-true _ q f.2)
         (first_least V H i (length (front H c)) (length H - length (front H c)) d f.0 (record { place = 0; cycle = 0; value = 0 }) f.1)
+
+    -- They are among all writes of the item.
+    pub next_inside : count_at V H i c < length (writes_from V H i 0 (length H))
+    next_inside = let some = some_after in omega (arith, ap length after_kept, length-drop (count_at V H i c) (writes_from V H i 0 (length H)))
+
+    pub next_kept : (d : ItemWrite) → (get_or (writes_from V H i 0 (length H)) (count_at V H i c) d).place ≤ q
+    next_kept d = subst (λ (w : ItemWrite). w.place ≤ q)
+        (ap (λ ws. get_or ws 0 d) (sym after_kept) ∙ get_or-drop (count_at V H i c) (writes_from V H i 0 (length H)) 0 d
+        ∙ ap (λ k. get_or (writes_from V H i 0 (length H)) k d) (add-zero (count_at V H i c)))
+        (next_least d)
 
 -- What comes late for a read isn't before the read's cycle.
 pub late_from : (H : List Event) (r : ReadAt) (q : ℕ) → is_late_for H [] q r ≡ true → length (front H r.cycle) ≤ q

@@ -18,6 +18,14 @@ use air_base::{NoMemory, ReadOf};
 use air_history::Event;
 use std::alloc::Global;
 
+/// Where a walk for reads may begin and end. No commit before the first place writes an item after its read's origin, and each origin is
+/// before the end.
+#[derive(Clone, Copy, Debug, PartialEq, Eq)]
+struct WalkRange {
+    first: u64,
+    end: u64,
+}
+
 /// The origin of each read.
 pub fn origins_of(
     alloc: Global,
@@ -46,24 +54,6 @@ pub fn end_of(count: usize, origins: &[Option<u64>]) -> usize
         }
     }
     end
-}
-
-/// A place before which no commit writes a read's item after its origin.
-fn first_after(replay: &Replay<'_>, read: &ReadOf) -> u64
-    ensures { (q : ℕ) → (writes (event_at replay.now.history q) read.now.item && is_after (origin replay.now.history (place_of_line read.now)) q) ≡ true → result ≤ q }
-{
-    replay.next_write(read.item, read.cycle)
-}
-
-/// A place before which no commit writes the item of one of the reads after its origin.
-fn first_late(replay: &Replay<'_>, reads: &[ReadOf]) -> u64
-    ensures { (q : ℕ) → overwrites_read replay.now.history (places_read reads.now) q ≡ true → result ≤ q }
-{
-    let mut first = replay.events().len() as u64;
-    for read in reads {
-        first = first.min(first_after(replay, read));
-    }
-    first
 }
 
 /// Whether the place is an origin.
@@ -150,31 +140,48 @@ fn none_late(
     true
 }
 
-/// The place after a read's origin, 0 if there is none.
-fn end_after(replay: &Replay<'_>, read: &ReadOf) -> u64
-    ensures within { result ≤ length replay.now.history }
-    ensures after { IfSome (origin replay.now.history (place_of_line read.now)) (λ w. w < result) }
+/// The place after an origin, 0 if there is none.
+fn after_origin(origin: Option<u64>, count: usize) -> u64
+    requires { IfSome origin (λ w. w < count) }
+    ensures within { result ≤ count }
+    ensures after { IfSome origin (λ w. w < result) }
 {
-    let _events = replay.events().len();
-    match replay.origin(read.item, read.cycle) {
+    match origin {
         None => 0,
         Some(place) => place + 1,
     }
 }
 
-/// The place after the last origin of the reads, 0 if there is none.
-fn end_of_all(replay: &Replay<'_>, reads: &[ReadOf]) -> u64
-    ensures within { result ≤ length replay.now.history }
-    ensures all { All (λ o. IfSome o (λ w. w < result)) (map (origin replay.now.history) (places_read reads.now)) }
+/// Where a walk for a read may begin and end.
+fn range_of(replay: &Replay<'_>, read: &ReadOf) -> WalkRange
+    ensures within { result.end ≤ length replay.now.history }
+    ensures late { (q : ℕ) → (writes (event_at replay.now.history q) read.now.item && is_after (origin replay.now.history (place_of_line read.now)) q) ≡ true → result.first ≤ q }
+    ensures before { IfSome (origin replay.now.history (place_of_line read.now)) (λ w. w < result.end) }
 {
-    let mut end = 0;
-    for read in reads {
-        end = end.max(end_after(replay, read));
+    let near = replay.around(read.item, read.cycle);
+    WalkRange {
+        first: near.next,
+        end: after_origin(near.origin, replay.events().len()),
     }
-    end
 }
 
-/// Whether the reads are consistent, by a walk from the end back to the first place.
+/// Where a walk for reads may begin and end.
+fn range_of_all(replay: &Replay<'_>, reads: &[ReadOf]) -> WalkRange
+    ensures within { result.end ≤ length replay.now.history }
+    ensures late { (q : ℕ) → overwrites_read replay.now.history (places_read reads.now) q ≡ true → result.first ≤ q }
+    ensures before { All (λ o. IfSome o (λ w. w < result.end)) (map (origin replay.now.history) (places_read reads.now)) }
+{
+    let mut first = replay.events().len() as u64;
+    let mut end = 0;
+    for read in reads {
+        let range = range_of(replay, read);
+        first = first.min(range.first);
+        end = end.max(range.end);
+    }
+    WalkRange { first, end }
+}
+
+/// Whether the reads are consistent, by a walk.
 fn walk(
     alloc: Global,
     replay: &Replay<'_>,
@@ -182,8 +189,8 @@ fn walk(
     first: usize,
     end: usize,
 ) -> Result<bool, NoMemory>
-    requires first { (q : ℕ) → overwrites_read replay.now.history (places_read reads.now) q ≡ true → first ≤ q }
     requires within { end ≤ length replay.now.history }
+    requires first { (q : ℕ) → overwrites_read replay.now.history (places_read reads.now) q ≡ true → first ≤ q }
     requires end { All (λ o. IfSome o (λ w. w < end)) (map (origin replay.now.history) (places_read reads.now)) }
     ensures { IfOk result (λ told. told ≡ consistent replay.now.history (places_read reads.now)) }
 {
@@ -196,8 +203,8 @@ fn walk(
 pub fn is_consistent(alloc: Global, replay: &Replay<'_>, reads: &[ReadOf]) -> Result<bool, NoMemory>
     ensures { IfOk result (λ told. told ≡ consistent replay.now.history (places_read reads.now)) }
 {
-    let first = first_late(replay, reads);
-    let end = end_of_all(replay, reads);
+    let range = range_of_all(replay, reads);
+    let (first, end) = (range.first, range.end);
     if end <= first {
         return Ok(true);
     }

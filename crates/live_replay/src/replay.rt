@@ -13,7 +13,7 @@ ghost use Rattle.air_model.specs.Decks.{values_in};
 ghost use Rattle.air_model.specs.Reports.{total_at};
 ghost use Rattle.live_replay.specs.Findings.{read_in_cycle};
 ghost use Rattle.live_replay.specs.Private.Groups.{writes_between};
-ghost use Rattle.live_replay.specs.Private.Writes.{count_at, writes_after, writes_from};
+ghost use Rattle.live_replay.specs.Private.Writes.{count_at, writes_from};
 
 use crate::running::ReplayState;
 use crate::writes::{ItemWrite, ItemWrites};
@@ -29,6 +29,15 @@ pub struct Replay<'a> {
     deck: &'a Deck,
     history: &'a History,
     writes: Vec<ItemWrites>,
+}
+
+/// What is next to a read among the writes of its item.
+#[derive(Clone, Copy, Debug, PartialEq, Eq)]
+pub struct Neighbours {
+    /// The place of the read's origin.
+    pub origin: Option<u64>,
+    /// A place before which no commit from the read's cycle on writes the item: that of the first such commit, or that after the last event.
+    pub next: u64,
 }
 
 impl<'a> Model for Replay<'a> {
@@ -123,18 +132,30 @@ impl<'a> Replay<'a> {
         self.deck.items()
     }
 
+    /// What is next to a read among the writes of its item. Of an item that the deck doesn't have, nothing is known.
+    pub fn around(&self, item: u16, cycle: u32) -> Neighbours
+        ensures origin { result.origin ≡ origin self.now.history (read_in_cycle item cycle) }
+        ensures next { (q : ℕ) → writes (event_at self.now.history q) item ≡ true → length (front self.now.history cycle) ≤ q → result.next ≤ q }
+    {
+        if item >= self.deck.items() {
+            return Neighbours {
+                origin: None,
+                next: 0,
+            };
+        }
+        let before = self.writes_before(item, cycle);
+        let writes = self.writes(item);
+        Neighbours {
+            origin: writes.last_of(before),
+            next: writes.place_of(before, self.history.len()),
+        }
+    }
+
     /// The place of the commit that is the origin of a read.
     pub fn origin(&self, item: u16, cycle: u32) -> Option<u64>
         ensures { result ≡ origin self.now.history (read_in_cycle item cycle) }
     {
-        if item >= self.deck.items() {
-            return None;
-        }
-        let before = self.writes_before(item, cycle);
-        if before == 0 {
-            return None;
-        }
-        Some(self.writes(item).as_slice()[before - 1].place)
+        self.around(item, cycle).origin
     }
 
     /// Whether an item has one origin at two cycles.
@@ -171,30 +192,6 @@ impl<'a> Replay<'a> {
             return &[];
         }
         &self.writes(item).as_slice()[first..end]
-    }
-
-    /// The writes of an item from a cycle on, in order.
-    fn writes_from(&self, item: u16, cycle: u32) -> &[ItemWrite]
-        requires { item < length self.now.deck.items }
-        ensures { result.now ≡ writes_after (values_in self.now.deck) self.now.history item cycle }
-    {
-        let before = self.writes_before(item, cycle);
-        &self.writes(item).as_slice()[before..]
-    }
-
-    /// A place before which no commit from a cycle on writes an item: that of the first such commit, or that after the last event if
-    /// there is none; 0 if the deck doesn't have the item.
-    pub fn next_write(&self, item: u16, cycle: u32) -> u64
-        ensures { (q : ℕ) → writes (event_at self.now.history q) item ≡ true → length (front self.now.history cycle) ≤ q → result ≤ q }
-    {
-        if item >= self.deck.items() {
-            return 0;
-        }
-        let writes = self.writes_from(item, cycle);
-        if writes.is_empty() {
-            return self.history.len();
-        }
-        writes[0].place
     }
 
     /// The value of an item at a cycle's start.

@@ -1,7 +1,8 @@
 //! What is kept of a history: for each item its writes in order.
 
-ghost use Rattle.std.specs.Prelude.{◌≡◌, [], ◌∷◌, ◌++◌, count_by, nat_lt, OnOk};
+ghost use Rattle.std.specs.Prelude.{◌≡◌, ◌<◌, ◌≤◌, ◌-◌, ◌==◌, [], ◌∷◌, ◌++◌, cond, count_by, get_or, length, nat_lt, None, Some, OnOk};
 ghost use Rattle.std.specs.List.Sorted.{IsNonDecreasingBy};
+ghost use Rattle.live_replay.specs.declared.writes.ItemWrite.{ItemWrite};
 
 use air_base::NoMemory;
 use std::alloc::Global;
@@ -61,5 +62,26 @@ impl ItemWrites {
         ensures { result ≡ count_by (λ w. nat_lt w.cycle cycle) self.now }
     {
         self.writes.partition_point(|write| write.cycle < cycle)
+    }
+    /// The place of the last of the first writes, if there are any.
+    pub fn last_of(&self, count: usize) -> Option<u64>
+        requires { count ≤ length self.now }
+        ensures { (d : ItemWrite) → result ≡ cond (count == 0) None (Some (get_or self.now (count - 1) d).place) }
+    {
+        if count == 0 {
+            return None;
+        }
+        Some(self.writes[count - 1].place)
+    }
+
+    /// The place of a write, or this end if there is none.
+    pub fn place_of(&self, at: usize, end: u64) -> u64
+        ensures some { (d : ItemWrite) → at < length self.now → result ≡ (get_or self.now at d).place }
+        ensures none { length self.now ≤ at → result ≡ end }
+    {
+        if at >= self.writes.len() {
+            return end;
+        }
+        self.writes[at].place
     }
 }

@@ -1,8 +1,0 @@
-use Rattle.std.proofs.Common.{◌≡◌, ◌<◌, ◌≤◌, ℕ, true, [], get_or}
-use Rattle.air_base.specs.declared.verdicts.ReadOf.{ReadOf}
-use Rattle.live_replay.specs.Findings.{place_of_line}
-use Rattle.live_replay.proofs.AloneLemmas.{is_late_for}
-use Rattle.live_replay.proofs.alone.first_late.Given as goal
-
-abbrev pub invariant-loop-read : goal.invariant-loop-read
-invariant-loop-read l = (k : ℕ) (d : ReadOf) → k < l.read-index → (q : ℕ) → is_late_for l.replay.history [] q (place_of_line (get_or l.reads k d)) ≡ true → l.first ≤ q
