@@ -20,6 +20,7 @@ pub mod TapeSizeLemmas
 pub mod BoundLemmas
 pub mod NearLemmas
 pub mod FollowLemmas
+pub mod FitLemmas
 pub mod StandLemmas
 pub mod SoonLemmas
 pub mod RightLemmas

@@ -1,22 +1,21 @@
 -- A search on the indexed tape of a history tells what is right.
-use Rattle.std.proofs.Common.{◌≡◌, ◌≤◌, ◌<◌, ◌+◌, if◌then◌else◌, ℕ, zero-add, None, List, drop, get_or, length, map, refl, sym, subst, ◌∙◌, ap, arith}
+use Rattle.std.proofs.Common.{◌≡◌, ◌≤◌, ◌<◌, ◌+◌, ◌^◌, if◌then◌else◌, ℕ, zero-add, None, List, drop, get_or, length, map, refl, sym, subst, ◌∙◌, ap, arith}
 use Rattle.std.specs.List.{position_or_len}
 use Rattle.std.proofs.lemmas.List.{drop-drop, get_or-drop, length-drop}
 use Rattle.air_history.specs.declared.histories.Event.{Event}
 use Rattle.air_history.specs.Histories.{starts}
 use Rattle.air_model.specs.Aired.{air_of, buckets_of}
-use Rattle.air_model.specs.AiredLaws.{CanAir}
 use Rattle.air_model.specs.Buckets.{spelling}
-use Rattle.air_model.specs.Decks.{Deck, disks_in, values_in}
-use Rattle.air_model.proofs.RangeLemmas.{range}
+use Rattle.air_model.specs.Decks.{Deck, IsDeck, disks_in, values_in}
 use Rattle.item_catalog.specs.DeckLimits.{WithinLimits}
 use Rattle.chunk_program.specs.Editions.{plans_in}
 use Rattle.chunk_program.specs.Plans.{AreShort}
 use Rattle.air_index.specs.OnAir.{IsSlot, Mark, marks_index, marks_item}
-use Rattle.air_index.specs.SeekLaws.{IsRightAnswer, history_records, marks_on, opens_of, place_to_find}
+use Rattle.air_index.specs.SeekLaws.{AmountsFit, IsRightAnswer, history_records, marks_on, opens_of, place_to_find}
 use Rattle.air_index.specs.Seeks.{sought}
 use Rattle.air_index.specs.declared.sought.Sought.{Sought}
 use Rattle.air_index.specs.declared.sought.Sought.TheVariants.{Found, Lost}
+use Rattle.air_index.proofs.FitLemmas.{all_fit}
 use Rattle.air_index.proofs.FollowLemmas.{IsToldOf, StandFor, first_told_of, place_after, stand_drop, stand_length}
 use Rattle.air_index.proofs.LawLemmas.{few_opens, found_there}
 use Rattle.air_index.proofs.NearLemmas.{found_within}
@@ -32,7 +31,7 @@ same_place marks i p =
     ap (λ x. if marks_item i x then p else p + next + position_or_len (marks_item i) (drop next (drop p marks))) (get_or-drop p marks 0 (IsSlot None) ∙ ap (λ k. get_or marks k (IsSlot None)) none)
     ∙ ap (λ l. if marks_item i (get_or marks p (IsSlot None)) then p else p + next + position_or_len (marks_item i) l) (drop-drop next p marks)
 
-module _ (deck : Deck) (H : List Event) (i p : ℕ) (can : CanAir deck H) (within : WithinLimits deck) (short : AreShort deck) (below : i < length deck.items) (on_tape : p < length (history_records deck H)) where
+module _ (deck : Deck) (H : List Event) (i p : ℕ) (made : IsDeck deck) (amounts : AmountsFit H) (few : starts H < 2 ^ 32) (within : WithinLimits deck) (short : AreShort deck) (below : i < length deck.items) (on_tape : p < length (history_records deck H)) where
   marks : List Mark
   marks = marks_on (plans_in deck) (starts H)
 
@@ -41,7 +40,7 @@ module _ (deck : Deck) (H : List Event) (i p : ℕ) (can : CanAir deck H) (withi
 
   stand : StandFor (IsToldAt deck H i) i 0 marks records
   unfolding buckets_of marks records
-  stand = let cycles = can.cycles in cycles_stand deck H can within short i below 1 0 (starts H) refl (omega arith) (range deck H can)
+  stand = cycles_stand deck H made within short i below 1 0 (starts H) refl (omega arith) (all_fit deck H made amounts few short)
 
   long : length records ≡ length marks
   long = stand_length (IsToldAt deck H i) i 0 marks records stand
@@ -66,9 +65,9 @@ module _ (deck : Deck) (H : List Event) (i p : ℕ) (can : CanAir deck H) (withi
     carried = found_there records i p opens place cycle value e;
     in_cycle = told.2.in_cycle;
     its_value = told.2.its_value;
-    soon = λ c placed. subst (λ k. k < length (marks_on (plans_in deck) (c + 1))) (sym told.0) (found_soon deck H can within short i below p c placed (let whole = long in let under = told.1 in omega arith));
+    soon = λ c placed. subst (λ k. k < length (marks_on (plans_in deck) (c + 1))) (sym told.0) (found_soon deck H made within short i below p c placed (let whole = long in let under = told.1 in omega arith));
     near = λ plain.
-        let most = found_within deck can.made within short plain (starts H) (map spelling (buckets_of (values_in deck) (air_of deck) H)) i p opens place cycle value can.cycles e in
+        let most = found_within deck made within short plain (starts H) (map spelling (buckets_of (values_in deck) (air_of deck) H)) i p opens place cycle value few e in
         let count = count_marks (disks_in deck 0) in
         omega arith;
   }

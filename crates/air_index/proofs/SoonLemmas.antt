@@ -7,8 +7,7 @@ use Rattle.std.proofs.lemmas.Grind.{flat_map-append}
 use Rattle.std.proofs.lemmas.List.{append-nil, drop-append-le, length-drop}
 use Rattle.air_history.specs.declared.histories.Event.{Event}
 use Rattle.air_history.specs.Histories.{starts}
-use Rattle.air_model.specs.AiredLaws.{CanAir}
-use Rattle.air_model.specs.Decks.{Deck}
+use Rattle.air_model.specs.Decks.{Deck, IsDeck}
 use Rattle.air_model.specs.Disks.{Disk}
 use Rattle.air_model.specs.Programs.{minor_len, num_minors}
 use Rattle.air_model.proofs.EtherLemmas.{range_join}
@@ -59,7 +58,7 @@ comes_before p xs next rest x comes within =
     ap (position_or_len p) (drop-append-le x (xs ++ next) rest (omega arith)) ∙ first_left p (drop x (xs ++ next)) rest under in
     omega arith
 
-module _ (deck : Deck) (H : List Event) (can : CanAir deck H) (within : WithinLimits deck) (short : AreShort deck) (i : ℕ) (below : i < length deck.items) where
+module _ (deck : Deck) (H : List Event) (made : IsDeck deck) (within : WithinLimits deck) (short : AreShort deck) (i : ℕ) (below : i < length deck.items) where
   next_comes : (x c : ℕ) → x < length (marks_on (plans_in deck) c) → first_from (marks_item i) (marks_on (plans_in deck) (starts H)) x < length (marks_on (plans_in deck) (starts H))
       → first_from (marks_item i) (marks_on (plans_in deck) (starts H)) x < length (marks_on (plans_in deck) (c + 1))
   next_comes x c placed under = by (cases_lt c (starts H))
@@ -73,7 +72,7 @@ module _ (deck : Deck) (H : List Event) (can : CanAir deck H) (within : WithinLi
           ap (marks_on (plans_in deck)) (sym all) ∙ marks_join (plans_in deck) (c + 1) left ∙ ap (λ l. l ++ rest) (marks_next (plans_in deck) c) in
           subst (λ (l : List Mark). first_from (marks_item i) (marks_on (plans_in deck) (starts H)) x < length l) (sym (marks_next (plans_in deck) c))
           (subst (λ (l : List Mark). first_from (marks_item i) l x < length (marks_on (plans_in deck) c ++ marks_at (plans_in deck) (1 + c))) (sym split)
-          (comes_before (marks_item i) (marks_on (plans_in deck) c) (marks_at (plans_in deck) (1 + c)) rest x (comes deck H can within short i below (1 + c)).0 (omega arith)))
+          (comes_before (marks_item i) (marks_on (plans_in deck) c) (marks_at (plans_in deck) (1 + c)) rest x (comes deck H made within short i below (1 + c)).0 (omega arith)))
       by (inr last) = let grown = marks_grow (plans_in deck) (starts H) (c + 1) (omega arith) in omega arith
 
   pub found_soon : (p c : ℕ) → IsInCycle (plans_in deck) (first_from marks_index (marks_on (plans_in deck) (starts H)) p) c

@@ -13,7 +13,6 @@ use Rattle.air_history.specs.declared.histories.Event.{Event}
 use Rattle.air_history.specs.Reads.{read_value}
 use Rattle.air_history.specs.Tables.{values_of}
 use Rattle.air_model.specs.Aired.{aired_as, air_of, body_of, bucket_of, cycle_buckets, slots_at}
-use Rattle.air_model.specs.AiredLaws.{CanAir}
 use Rattle.air_model.specs.Airings.{carries}
 use Rattle.air_model.specs.Buckets.{Bucket, IsInRange, capped_body, spelling, value_of}
 use Rattle.air_model.specs.Decks.{Deck, IsDeck, disks_in, edition, values_in}
@@ -148,15 +147,15 @@ pub record IsToldAt (deck : Deck) (H : List Event) (i place cycle value : ℕ) :
 
 -- ---- a deck's history
 
-module _ (deck : Deck) (H : List Event) (can : CanAir deck H) (within : WithinLimits deck) (short : AreShort deck) (i : ℕ) (below : i < length deck.items) where
+module _ (deck : Deck) (H : List Event) (made : IsDeck deck) (within : WithinLimits deck) (short : AreShort deck) (i : ℕ) (below : i < length deck.items) where
   -- the item and an index come in each cycle
   pub comes : (c : ℕ) → (position_or_len (marks_item i) (marks_at (plans_in deck) c) < length (marks_at (plans_in deck) c)) × (position_or_len marks_index (marks_at (plans_in deck) c) < length (marks_at (plans_in deck) c))
   comes c =
       let e = edition deck c in
       let disks = disks_in deck e in
       let there = edition_within deck c in
-      let are = deck_limits deck e can.made within there in
-      let items = deck_items deck e can.made within there in
+      let are = deck_limits deck e made within there in
+      let items = deck_items deck e made within there in
       let some = item_comes disks i are (omega arith) in
       let marked = item_marked disks i some in
       let first = begins_with_index disks (some_parts disks (omega arith)).0 in
@@ -176,7 +175,7 @@ module _ (deck : Deck) (H : List Event) (can : CanAir deck H) (within : WithinLi
   unfolding entry_for ahead
   index_stands c q m marks later started few minor rest follows = record {
     index = record { cycle = c; minor = m; entries = entries_for (plans_in deck) (length deck.items) c q };
-    reads = deck_index_back deck c q can.made within short m started few (omega arith);
+    reads = deck_index_back deck c q made within short m started few (omega arith);
     entry = entry_for (plans_in deck) c q i;
     listed = entry_listed c q;
     leads = subst (λ l. LeadsTo (marks_item i) (position_or_len (marks_item i) (l ++ marks_at (plans_in deck) (c + 1)) + 1) (marks ++ later)) (sym rest)
@@ -193,7 +192,7 @@ module _ (deck : Deck) (H : List Event) (can : CanAir deck H) (within : WithinLi
       record {
         wait = wait_for (plans_in deck) c q;
         bucket = aired deck H c s;
-        reads = deck_data_back deck c q can.made within short (aired deck H c s) range;
+        reads = deck_data_back deck c q made within short (aired deck H c s) range;
         item = item;
         leads = subst (λ l. LeadsTo marks_index (position_or_len marks_index (l ++ marks_at (plans_in deck) (c + 1)) + 1) (marks ++ later)) (sym rest)
             (leads marks_index marks (marks_at (plans_in deck) (c + 1)) later (comes (c + 1)).1 follows);
@@ -276,7 +275,7 @@ module _ (deck : Deck) (H : List Event) (can : CanAir deck H) (within : WithinLi
       subst (λ (l : List (Option ℕ)). All IsInRange (map (aired deck H c) (range_with_len 0 (length l)) ++ bs)) (sym (slots_here deck c)) range in
       subst (λ (l : List (Option ℕ)). StandFor (IsToldAt deck H i) i first (marks ++ later) (records_at_marks plans n c 0 marks (map spelling (map (aired deck H c) (range_with_len 0 (length l)) ++ bs)) ++ rs)) (slots_here deck c)
       (subst (λ k. StandFor (IsToldAt deck H i) i k (marks ++ later) (records_at_marks plans n c 0 marks (map spelling (map (aired deck H c) (range_with_len 0 (length (slots_in marks))) ++ bs)) ++ rs)) (add_none first)
-      (cycle_stands c first 0 0 marks later bs rs (omega arith) (omega arith) (is_later (c + 1) k) (omega arith) (omega arith) refl (numbered deck can.made within short c) (sym (slots_here deck c)) here
+      (cycle_stands c first 0 0 marks later bs rs (omega arith) (omega arith) (is_later (c + 1) k) (omega arith) (omega arith) refl (numbered deck made within short c) (sym (slots_here deck c)) here
       (subst (λ k. StandFor (IsToldAt deck H i) i k later rs) (whole ∙ ap (λ j. j + length marks) (sym (add_none first))) rest)))
     where
       add_none : (m : ℕ) → m + 0 ≡ m

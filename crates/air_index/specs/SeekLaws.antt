@@ -1,8 +1,8 @@
 -- The words of the laws of seeks: `opens_law`, `found_law` and `seek_law`.
-use Rattle.std.specs.Prelude.{◌≡◌, ◌≤◌, ◌<◌, ℕ, ◌+◌, ◌-◌, Bool, if◌then◌else◌, List, [], Some, None, true, drop, get_or, length, map, slice_get}
+use Rattle.std.specs.Prelude.{◌≡◌, ◌≤◌, ◌<◌, ℕ, ◌+◌, ◌-◌, ◌^◌, Bool, if◌then◌else◌, List, [], Some, None, true, All, drop, get_or, length, map, slice_get}
 use Rattle.std.specs.List.{flat_map, position_or_len, range_with_len}
 use Rattle.air_history.specs.declared.histories.Event.{Event}
-use Rattle.air_history.specs.Histories.{starts}
+use Rattle.air_history.specs.Histories.{starts, writes_of}
 use Rattle.air_history.specs.Reads.{read_value}
 use Rattle.air_history.specs.Tables.{values_of}
 use Rattle.air_model.specs.Aired.{air_of, buckets_of}
@@ -36,6 +36,10 @@ pub record IsFoundAt (records : List (List ℕ)) (i place cycle value : ℕ) : T
   pub its_value : value ≡ value_of bucket.body
 
 -- ---- on the tape of a history
+
+-- Each write's amount is below 2^64.
+abbrev pub AmountsFit : List Event → Type 0
+AmountsFit H = All (λ e. All (λ w. w.amount < 2 ^ 64) (writes_of e)) H
 
 -- The records of the indexed tape of a history of a deck.
 abbrev pub history_records : Deck → List Event → List (List ℕ)

@@ -18,7 +18,7 @@ ghost use Rattle.air_index.specs.Indexes.{index_bytes, is_index};
 ghost use Rattle.air_index.specs.IndexedTapes.{beam_tape_of, entries_for, indexed_piece, indexed_records, indexed_size, minors_after, records_from, slots_after};
 ghost use Rattle.air_index.specs.OnAir.{IsIndex, IsSlot, ahead, marks_of, wait_for};
 ghost use Rattle.air_index.specs.Records.{data_bytes, indexed_at};
-ghost use Rattle.air_index.specs.SeekLaws.{IsFoundAt, IsRightAnswer, history_records, opens_of};
+ghost use Rattle.air_index.specs.SeekLaws.{AmountsFit, IsFoundAt, IsRightAnswer, history_records, opens_of};
 ghost use Rattle.air_index.specs.Seeks.{sought};
 ghost use Rattle.air_index.specs.declared.records.Indexed.TheVariants as variant;
 ghost use Rattle.air_index.specs.declared.sought.Sought.TheVariants.{Found};
@@ -48,11 +48,12 @@ pub fn records_back_law()
         tape_read (tape_of (history_records deck H)) ≡ record { records = history_records deck H; cut = None } }
 {}
 
-/// On the indexed tape of a history of a deck, an item of the catalog is found from a record of the tape on, if and only if that record has it, or
-/// the first index record from there on and then a data record of the item are on the tape. At most three records are opened.
+/// On the indexed tape that a deck airs of any history whose amounts are below 2^64, an item of the catalog is found from a record of the tape on,
+/// if and only if that record has it, or the first index record from there on and then a data record of the item are on the tape. At most three
+/// records are opened.
 pub fn seek_law()
     ensures { (deck : Deck) (H : List Event) (i p : ℕ) →
-        CanAir deck H → WithinLimits deck → AreShort deck → i < length deck.items → p < length (history_records deck H) →
+        IsDeck deck → AmountsFit H → starts H < 2 ^ 32 → WithinLimits deck → AreShort deck → i < length deck.items → p < length (history_records deck H) →
         (opens_of (sought (history_records deck H) i p) ≤ 3) × IsRightAnswer deck H i p (sought (history_records deck H) i p) }
 {}
 
