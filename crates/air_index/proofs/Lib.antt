@@ -15,6 +15,7 @@ pub mod LengthLemmas
 pub mod WriteLemmas
 pub mod DataLemmas
 pub mod TapeLemmas
+pub mod ReadableLemmas
 pub mod CycleLemmas
 pub mod TapeSizeLemmas
 pub mod BoundLemmas
@@ -29,3 +30,4 @@ pub mod OnAirExamples
 mod StepExamples
 mod SeekExamples
 mod PlaceExamples
+mod LastCycleExamples

@@ -38,7 +38,7 @@ use Rattle.air_index.proofs.WriteLemmas.{long_data, long_index}
 abbrev Short : List ℕ → Type 0
 Short r = length r < 2 ^ 32
 
-abbrev AreSmall : List (List ℕ) → Type 0
+abbrev pub AreSmall : List (List ℕ) → Type 0
 AreSmall xs = All (λ r. length r ≤ 4120) xs
 
 index_short : (plans : Plans) (n c q m : ℕ) → n ≤ 1024 → Short (index_bytes c m (entries_for plans n c q))

@@ -1,16 +1,18 @@
 -- The indexed tape: the buckets of a tape as data records, with an index record before those of each minor cycle.
-use Rattle.std.specs.Prelude.{◌≡◌, ℕ, zero, suc, ◌+◌, ◌*◌, List, [], ◌∷◌, ◌++◌, Option, Some, None, All, drop, get_or, length, map, sum_by}
+use Rattle.std.specs.Prelude.{◌≡◌, ◌<◌, ℕ, zero, suc, ◌+◌, ◌*◌, ◌^◌, List, [], ◌∷◌, ◌++◌, Option, Some, None, All, drop, get_or, length, map, sum_by}
 use Rattle.std.specs.List.{range_with_len}
 use Rattle.air_model.specs.Aired.{air_of, buckets_of}
 use Rattle.air_model.specs.Buckets.{Bucket, bucket_in, entry_len, spelling}
-use Rattle.air_model.specs.Decks.{Deck, script_history, values_in}
+use Rattle.air_model.specs.Decks.{Deck, IsDeck, script_history, values_in}
 use Rattle.air_model.specs.Programs.{num_minors}
 use Rattle.air_model.specs.Tapes.{tape_of}
 use Rattle.air_history.specs.Histories.{starts}
+use Rattle.item_catalog.specs.DeckLimits.{WithinLimits}
+use Rattle.chunk_program.specs.Plans.{AreShort}
 use Rattle.chunk_program.specs.Editions.{Plans, no_disks, planned_edition, planned_slots, plans_in}
 use Rattle.air_index.specs.Indexes.{index_bytes}
 use Rattle.air_index.specs.OnAir.{Mark, IsIndex, IsSlot, entry_for, marks_at, wait_for}
-use Rattle.air_index.specs.Records.{data_bytes}
+use Rattle.air_index.specs.Records.{IsIndexedTape, data_bytes}
 
 -- The entries of the index at place q of cycle c, for n items.
 unfoldable pub entries_for : Plans → ℕ → ℕ → ℕ → List ℕ
@@ -76,3 +78,10 @@ abbrev pub beam_tape_of : Deck → List ℕ
 beam_tape_of deck =
     indexed_tape (plans_in deck) (length deck.items) (starts (script_history deck))
     (map spelling (buckets_of (values_in deck) (air_of deck) (script_history deck)))
+
+-- The indexed piece of these cycles of a deck, from its plans and the bytes of its buckets, is an indexed tape if its last cycle is below 2^32:
+-- an index has four bytes of its cycle.
+abbrev pub IsTapeIfLow : Plans → ℕ → ℕ → ℕ → List (List ℕ) → Type 0
+IsTapeIfLow plans n first cycles buckets =
+    (deck : Deck) → IsDeck deck → WithinLimits deck → AreShort deck → plans ≡ plans_in deck → n ≡ length deck.items → first + cycles < 2 ^ 32
+    → IsIndexedTape (indexed_piece plans n first cycles buckets)

@@ -1,7 +1,8 @@
 -- The records of an indexed tape: an index, or a data record, which is a bucket and how many records on the next index is.
-use Rattle.std.specs.Prelude.{◌≡◌, ◌≤◌, ◌<◌, ℕ, ◌^◌, Bool, ◌&&◌, ◌==◌, nat_le, if◌then◌else◌, is_some, List, ◌∷◌, ◌++◌, drop, slice_index, Option, Some, None}
+use Rattle.std.specs.Prelude.{◌≡◌, ◌≤◌, ◌<◌, ℕ, ◌^◌, Bool, ◌&&◌, ◌==◌, nat_le, if◌then◌else◌, is_some, List, ◌∷◌, ◌++◌, All, drop, slice_index, Option, Some, None}
 use Rattle.byteorder.specs.Endian.{big_bytes}
 use Rattle.air_model.specs.Buckets.{Bucket, IsInRange, bucket_at, bucket_in, number_at, spelling}
+use Rattle.air_model.specs.Tapes.{tape_read}
 use Rattle.air_index.specs.Indexes.{IsIndexRecord, index_at, is_index}
 use Rattle.air_index.specs.declared.records.Indexed.{Indexed}
 use Rattle.air_index.specs.declared.records.Indexed.TheVariants.{Index, Payload}
@@ -38,3 +39,10 @@ payload_at bytes = if is_data bytes then Some (Payload (number_at 1 4 bytes) (bu
 -- What the bytes of a record say, if they are one of an indexed tape.
 unfoldable pub indexed_at : List ℕ → Option Indexed
 indexed_at bytes = if is_index bytes then Some (Index (index_at bytes)) else payload_at bytes
+
+-- ---- a tape of records
+
+-- The bytes are an indexed tape: it is whole, and each of its records is one of an indexed tape.
+pub record IsIndexedTape (bytes : List ℕ) : Type 0 where
+  pub whole : (tape_read bytes).cut ≡ None
+  pub records : All (λ r. (x : Indexed) × (indexed_at r ≡ Some x)) (tape_read bytes).records

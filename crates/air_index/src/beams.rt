@@ -7,7 +7,7 @@ ghost use Rattle.std.specs.Prelude.{◌≡◌, ◌<◌, ◌≤◌, ◌+◌, ◌^
 ghost use Rattle.air_model.specs.Programs.{minor_len, num_minors};
 ghost use Rattle.air_model.specs.Tapes.{tape_of, tape_read};
 ghost use Rattle.chunk_program.specs.Editions.{HaveItems, planned_slots};
-ghost use Rattle.air_index.specs.IndexedTapes.{AreBuckets, indexed_piece, indexed_tape, records_at_marks, records_from, slots_after};
+ghost use Rattle.air_index.specs.IndexedTapes.{AreBuckets, IsTapeIfLow, indexed_piece, indexed_tape, records_at_marks, records_from, slots_after};
 ghost use Rattle.air_index.specs.OnAir.{marks_at};
 ghost use Rattle.air_index.specs.Private.Beaming.{slot_records};
 
@@ -89,7 +89,8 @@ fn put_cycles(
 }
 
 /// Puts the indexed tape of the cycles after the first ones at the end, from the plain tape of their buckets. Pieces written so one after
-/// another are the whole tape (`pieces_law`). `n` is the number of items of each edition.
+/// another are the whole tape (`pieces_law`). `n` is the number of items of each edition. If the last cycle is 2^32, its index has the lowest
+/// four bytes of that number, 0, and is no index.
 pub fn beam_piece(
     plans: &Plans,
     n: u16,
@@ -103,6 +104,7 @@ pub fn beam_piece(
     requires counted { length (tape_read tape.now).records ≡ slots_after plans.now first cycles }
     requires grammar { AreBuckets (tape_read tape.now).records }
     ensures written { OnOk result (out.new.items ≡ out.old.items ++ indexed_piece plans.now n first cycles (tape_read tape.now).records) }
+    ensures indexed { IsTapeIfLow plans.now n first cycles (tape_read tape.now).records }
     ensures kept { OnErr result (out.new.items ≡ out.old.items) }
 {
     let before = out.len();
@@ -126,6 +128,7 @@ pub fn beam_tape(
     requires counted { length (tape_read tape.now).records ≡ slots_after plans.now 0 cycles }
     requires grammar { AreBuckets (tape_read tape.now).records }
     ensures written { OnOk result (out.new.items ≡ out.old.items ++ indexed_tape plans.now n cycles (tape_read tape.now).records) }
+    ensures indexed { IsTapeIfLow plans.now n 0 cycles (tape_read tape.now).records }
     ensures kept { OnErr result (out.new.items ≡ out.old.items) }
 {
     beam_piece(plans, n, 0, cycles, tape, out)
