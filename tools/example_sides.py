@@ -23,7 +23,7 @@ ALWAYS = {"live_replay/specs/TrueAudits.antt IsTrueAudit": "it is proved of each
 
 def is_statement(part):
     """Whether a definition is a type of proofs with arguments."""
-    return part.kind in WORDS and re.search(r": (?!Type 0 ).*→ Type 0$|record \S+ \(.*\) : Type 0 where$", part.lines[0]) is not None
+    return part.kind in WORDS and re.search(r": (?!Type 0 ).*→ Type 0$|record \S+ [({].*\) : Type 0 where$", part.lines[0]) is not None
 
 
 # ---- types as texts

@@ -5,6 +5,8 @@ import re
 TOP = os.path.dirname(os.path.dirname(os.path.abspath(__file__)))
 CRATES = os.path.join(TOP, "crates")
 CALLS = (("air_cli", "src/main_call.rt", "air_main"), ("air_cli", "src/quiet.rt", "air_quiet"))
+# The traits of devices: their clauses say what a call of a device changes of what is told, and so what the words of the top calls mean.
+TRAITS = (("air_devices", "src/shelves.rt", "Shelf"), ("air_devices", "src/masts.rt", "Mast"), ("air_devices", "src/ears.rt", "Ear"))
 # Modules of the grammars of decks and of reports: who takes "these bytes spell this deck" as said leaves them out. The limits of a deck are said over files that tell nothing, too.
 GRAMMARS = re.compile(r"(item_catalog/specs/(?!DeckLimits\.antt).*|air_report/specs/(?!Statuses\.antt).*)")
 
@@ -218,6 +220,13 @@ def clauses(crate, path, name):
     return re.search(r"pub fn " + name + r"\b.*?\n\{", text, re.S).group(0)
 
 
+def trait_clauses(crate, path, name):
+    """What the clauses of a trait's calls name, and its ghost function; and how many lines the clauses have."""
+    text = re.search(r"pub trait " + name + r"\b.*?\n\}", read(os.path.join(CRATES, crate, path)), re.S).group(0)
+    said = re.findall(r"^    (?:    (?:requires|ensures)|ghost) .*?(?=;\n|\n        (?:requires|ensures)|\n    (?!    ))", text, re.S | re.M)
+    return "\n".join(said), sum(len(clause.split("\n")) for clause in said if not clause.lstrip().startswith("ghost"))
+
+
 def reached_from(modules, waiting, without=None):
     """The parts that some parts rest on, by path and name; not what is said in certain modules, nor what these need."""
     waiting, seen = set(waiting), {}
@@ -231,11 +240,13 @@ def reached_from(modules, waiting, without=None):
     return seen
 
 
-def reached(modules, without=None):
-    """The parts that the contracts of the top calls rest on."""
+def reached(modules, without=None, traits=True):
+    """The parts that the contracts of the top calls rest on, and those of the devices' calls."""
     waiting = set()
     for crate, path, name in CALLS:
         waiting |= modules.named(os.path.join(CRATES, crate, path), clauses(crate, path, name))
+    for crate, path, name in TRAITS if traits else ():
+        waiting |= modules.named(os.path.join(CRATES, crate, path), trait_clauses(crate, path, name)[0])
     return list(reached_from(modules, waiting, without).values())
 
 

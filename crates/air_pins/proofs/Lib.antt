@@ -1,3 +1,4 @@
 pub mod EtherWords
 pub mod SplitLemmas
+mod CallExamples
 mod SplitExamples
