@@ -11,4 +11,6 @@ mod DrillExamples
 mod NumberExamples
 mod LongestExamples
 mod HeardLemmas
+mod OneGroupLemmas
+mod OneGroupExamples
 pub mod BeamPieces

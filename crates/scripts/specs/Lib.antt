@@ -6,3 +6,4 @@ pub mod Beamings
 pub mod Sinks
 pub mod DrillLines
 pub mod DrillSums
+pub mod OneGroups

@@ -9,6 +9,7 @@
 
 mod cycle_sources;
 mod drills;
+pub mod group_laws;
 pub mod laws;
 mod parts;
 mod piece_runs;
