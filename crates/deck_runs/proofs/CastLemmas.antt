@@ -1,6 +1,8 @@
 -- What a cast has sent, step by step: it had sent nothing before.
 use Rattle.std.proofs.Common.{◌≡◌, ℕ, suc, ◌+◌, Option, Some, None, List, [], ◌∷◌, length, take, sym, ◌∙◌, ap, subst, arith}
 use Rattle.std.specs.List.{range_with_len, sum_by}
+use Rattle.std.specs.Prelude.{Result, Ok, Err}
+use Rattle.std.specs.Result.{IsErrAnd}
 use Rattle.std.proofs.lemmas.List.{append-nil, take_all}
 use Rattle.std.proofs.lemmas.List.Sums.{sum_by-append, sum_by-cons}
 use Rattle.air_history.specs.declared.histories.Event.{Event}
@@ -19,7 +21,7 @@ use Rattle.air_sender.proofs.AiredLemmas.{range_more}
 use Rattle.chunk_program.specs.Editions.{EditionDisks, edition_disks}
 use Rattle.deck_runs.proofs.SendLemmas.{count_bytes}
 use Rattle.deck_runs.proofs.SentLemmas.{sends_nothing}
-use Rattle.deck_runs.specs.Casts.{IsCastAnswer, IsCastBeginning, all_sent, first_sent}
+use Rattle.deck_runs.specs.Casts.{FailsFirst, IsCastAnswer, IsCastBeginning, all_sent, first_sent}
 use Rattle.deck_runs.specs.Private.CastSteps.{bucket_count, buckets_up_to}
 
 -- It had sent nothing, if that is told.
@@ -116,3 +118,16 @@ pub all_cast : (deck : Deck) (H : List Event) (n : ℕ) (before mid now last : O
 all_cast deck H n before mid now last whole is unsent same sent kept =
     let count : n ≡ length (aired_bytes deck H) = is ∙ sym (bytes_count deck H whole) in
     record { history = H; whole = whole; within = omega arith; sent = all_behind n (aired_bytes deck H) before mid now last count unsent same sent kept }
+
+-- ---- the first failure
+
+-- The fault that is passed on is the one of the answer.
+pub passed_on : {T E : Type 0} (e f : E) (r : Result T E) → IsErrAnd r (λ y. y ≡ e) → r ≡ Err f → e ≡ f
+passed_on e f (Ok x) h is = absurd h
+passed_on e f (Err y) h is = let same : y ≡ f = cc in sym h ∙ same
+
+-- The threads' first failure is the cast's.
+pub run_first : {M : Type 0} (state : M → MastState) (deck : Deck) (before mid now : M) (e : RunFault) (sent : ℕ) → e ≡ fault.Mast sent → (state mid).faults ≡ (state before).faults → IsRunAnswer state deck mid now e
+    → FailsFirst state before now
+run_first state deck before mid now (fault.Mast n) sent is calm h = let f = h.failed in record { just_before = f.just_before; calm = f.calm ∙ calm; rose = f.rose; kept = f.kept }
+run_first state deck before mid now fault.NoMemory sent is calm h = cc

@@ -27,3 +27,11 @@ pub record IsCastBeginning (deck : Deck) (count : ℕ) (before now : Option Sent
 abbrev pub IsCastAnswer : Deck → MastState → MastState → RunFault → Type 0
 IsCastAnswer deck before now (fault.Mast sent) = Rose before.faults now.faults × IsCastBeginning deck sent before.told now.told
 IsCastAnswer deck before now fault.NoMemory = (now.faults ≡ before.faults) × ((count : ℕ) × IsCastBeginning deck count before.told now.told)
+
+-- Nothing was sent after the first failure: the mast just before it had counted none more than at first, and what it told then is still told. The
+-- witness is a mast and not a state, which could be made up: of an unknown type there are no masts but those that the calls found and left.
+pub record FailsFirst {M : Type 0} (state : M → MastState) (before now : M) : Type 0 where
+  pub just_before : M
+  pub calm : (state just_before).faults ≡ (state before).faults
+  pub rose : Rose (state just_before).faults (state now).faults
+  pub kept : (state now).told ≡ (state just_before).told

@@ -1,13 +1,13 @@
 //! A deck's run, cast to a mast.
 
-ghost use Rattle.std.specs.Prelude.{◌≡◌, None, Some, IfErr, IfOk, OnErr, OnOk};
+ghost use Rattle.std.specs.Prelude.{◌≡◌, ℕ, Err, None, Some, IfErr, IfOk, OnErr, OnOk};
 ghost use Rattle.air_devices.specs.Counts.{Rose};
 ghost use Rattle.air_devices.specs.Masts.{Changes, nothing_sent, with_end};
 ghost use Rattle.air_devices.specs.WhatIsTold.{WhereTold};
 ghost use Rattle.air_model.specs.Batches.{AirsByBatches};
 ghost use Rattle.air_model.specs.Runs.{IsRun};
 ghost use Rattle.air_sender.specs.AiredBytes.{aired_bytes};
-ghost use Rattle.deck_runs.specs.Casts.{IsCastAnswer, all_sent};
+ghost use Rattle.deck_runs.specs.Casts.{FailsFirst, IsCastAnswer, all_sent};
 ghost use Rattle.deck_runs.specs.Private.CastSteps.{bucket_count};
 
 use crate::threads::{Run, RunFault, run_threads};
@@ -46,8 +46,8 @@ fn send_end<M: Mast>(mast: &mut M, sent: u64) -> Result<(), RunFault>
 }
 
 /// Aims the mast at a port, runs the deck on threads with it, and sends the end: exactly the run's buckets were sent, and then the end. If the mast
-/// failed, it had sent the first `sent` buckets of a whole history, and no end: 0 if it could not be aimed, and all if only the end failed. After
-/// `NoMemory` it has sent the first buckets of a whole history, maybe none.
+/// failed, it had sent the first `sent` buckets of a whole history, and no end: 0 if it could not be aimed, and all if only the end failed. It sent
+/// nothing after its first failure. After `NoMemory` it has sent the first buckets of a whole history, maybe none.
 pub fn cast_run<R: Threads + Wait + Sync, M: Mast + Send, G: Gate + Sync>(
     rt: &R,
     alloc: Global,
@@ -63,6 +63,7 @@ pub fn cast_run<R: Threads + Wait + Sync, M: Mast + Send, G: Gate + Sync>(
     ensures sent { IfOk result (λ run. Changes (λ _. all_sent (aired_bytes planned.now run.history)) (M.state mast.old).told (M.state mast.new).told) }
     ensures calm { OnOk result ((M.state mast.new).faults ≡ (M.state mast.old).faults) }
     ensures fault { IfErr result (IsCastAnswer planned.now (M.state mast.old) (M.state mast.new)) }
+    ensures first { (sent : ℕ) → result ≡ Err (RunFault.Mast sent) → FailsFirst M.state mast.old mast.new }
     ensures port { (M.state mast.new).port ≡ Some port }
 {
     planned.shows_planned();

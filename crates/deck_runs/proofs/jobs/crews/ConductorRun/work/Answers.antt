@@ -7,7 +7,7 @@ use Rattle.cycle_snapshot.specs.SnapshotStates.{PublisherState}
 use Rattle.update_commit.proofs.EventLemmas.{starts_none}
 use Rattle.air_sender.specs.DeckGroups.{HasGroups}
 use Rattle.deck_runs.specs.Private.StageSteps.{HasAired}
-use Rattle.deck_runs.proofs.RunLemmas.{can_air, new_in_step, own_air, run_aired, run_batches, run_few, run_whole, values_sized}
+use Rattle.deck_runs.proofs.RunLemmas.{new_in_step, own_air, run_aired, run_batches, run_few, run_whole}
 use Rattle.deck_runs.proofs.SentLemmas.{run_answer}
 use Rattle.deck_runs.proofs.jobs.crews.ConductorRun.work.Goals as goal
 
