@@ -4,3 +4,4 @@ mod ReceiptLemmas
 mod GroupLemmas
 mod HotLemmas
 mod MadeLemmas
+mod CastLemmas

@@ -1,3 +1,4 @@
 pub mod SmallBatches
 pub mod SmallGroups
 pub mod HotItem
+pub mod CalmMasts

@@ -1,18 +1,19 @@
-//! These pins of `run_threads` say what a run of three cycles with two monitors answers, and what a failed run answers.
+//! These pins of `run_threads` and `cast_run` say what a run of three cycles with two monitors answers, and what a failed run or cast answers.
 //!
 //! Its threads run in any order, so the pins say what every run must keep.
 
-ghost use Rattle.std.specs.Prelude.{◌≡◌, ◌≤◌, ℕ, [], ◌∷◌, length, map, All, Err, Some, IfOk};
+ghost use Rattle.std.specs.Prelude.{◌≡◌, ◌≤◌, ℕ, [], ◌∷◌, length, map, All, Err, None, Some, IfOk};
 ghost use Rattle.air_history.specs.Histories.{starts};
 ghost use Rattle.air_history.specs.declared.histories.Event.TheVariants.{Commit};
 ghost use Rattle.air_model.specs.DeckLaws.{made_by};
 ghost use Rattle.air_model.specs.declared.reports.LookLine.{LookLine};
 ghost use Rattle.air_devices.specs.Masts.{SentBuckets, nothing_sent};
+ghost use Rattle.thread_pins.specs.CalmMasts.{HadSent};
 ghost use Rattle.thread_pins.specs.SmallBatches.{adds_to};
 
 use air_devices::{Gate, Mast};
 use chunk_program::Planned;
-use deck_runs::{Run, RunFault, run_threads};
+use deck_runs::{Run, RunFault, cast_run, run_threads};
 use std::alloc::Global;
 use std::sync::Wait;
 use std::thread::Threads;
@@ -73,4 +74,23 @@ pub fn sent_buckets_not_counted<R: Threads + Wait + Sync, M: Mast + Send, G: Gat
     ensures cause { (sent : ℕ) → result ≡ Err (RunFault.Mast sent) → 1 ≤ (M.state mast.new).faults }
 {
     run_threads(rt, alloc, planned, mast, gate)
+}
+
+/// A cast that answers that the mast failed sent nothing after the first failure: some mast had counted none, and had sent as many buckets as the
+/// answer says. It refuses a cast that sends a bucket again after a failed send, then the later ones, leaves out the end, and answers with the number of
+/// all buckets; and one that sends all the same after a failed aim.
+/// Promise: what goes over the air
+pub fn sends_on_after_a_failed_call<R: Threads + Wait + Sync, M: Mast + Send, G: Gate + Sync>(
+    rt: &R,
+    alloc: Global,
+    planned: &Planned,
+    mast: &mut M,
+    gate: &G,
+) -> Result<Run, RunFault>
+    requires unaimed { (M.state mast.old).port ≡ None }
+    requires unsent { (M.state mast.old).told ≡ Some nothing_sent }
+    requires faults { (M.state mast.old).faults ≡ 0 }
+    ensures { (sent : ℕ) → result ≡ Err (RunFault.Mast sent) → HadSent M.state sent }
+{
+    cast_run(rt, alloc, planned, mast, gate, 4001)
 }
