@@ -1,5 +1,5 @@
 -- Audits of small reports: what each relation says of the report of a run of a small deck, and of texts that are none.
-use Rattle.std.proofs.Common.{◌≡◌, ◌<◌, ◌≤◌, get_or, ℕ, zero, suc, List, [], ◌∷◌, None, All, refl, sym, ap, subst, ◌∙◌, arith}
+use Rattle.std.proofs.Common.{◌≡◌, ◌<◌, ◌≤◌, get_or, ℕ, zero, suc, List, [], ◌∷◌, Option, Some, None, All, refl, sym, ap, subst, ◌∙◌, arith}
 use Rattle.std.specs.Prelude.{codes}
 use Rattle.std.proofs.lemmas.List.Elements.{All-nil}
 use Rattle.csv.proofs.OnLiterals.{csv_on_literals}
@@ -18,6 +18,7 @@ use Rattle.air_history.specs.declared.histories.Event.{Event}
 use Rattle.air_history.specs.declared.histories.Event.TheVariants as e
 use Rattle.air_model.specs.Decks.{Deck, IsDeck, IsUpdate}
 use Rattle.air_model.specs.Reports.{Report}
+use Rattle.air_model.specs.declared.reports.VerdictLine.{VerdictLine}
 use Rattle.air_model.proofs.RelationExamples.{pair_is_deck}
 use Rattle.air_model.proofs.SessionExamples.{pair}
 use Rattle.air_report.specs.LineTexts.{short_of, spelled_item, spelled_place, spelled_read}
@@ -30,11 +31,14 @@ use Rattle.air_report.specs.declared.reading.ReadReport.{ReadReport}
 use Rattle.air_report.proofs.TiedReports.{spelled_report, told_fault}
 use Rattle.live_replay.specs.AuditAnswers.{CanBeAudited, IsAudit, IsTooMuch}
 use Rattle.live_replay.specs.Audits.{findings, replayed_in}
-use Rattle.live_replay.specs.FindingLaws.{GivesVerdict}
+use Rattle.live_replay.specs.FindingLaws.{FindsEach, FindsLine, GivesVerdict}
 use Rattle.live_replay.specs.Findings.{all_pass, is_clash, is_refused, look_cause, spans_so, verdict_cause}
 use Rattle.live_replay.specs.TrueAudits.{IsTrueAudit}
+use Rattle.live_replay.specs.declared.findings.Cause.{Cause}
+use Rattle.live_replay.specs.declared.findings.Cause.TheVariants.{Verdict}
 use Rattle.live_replay.specs.declared.findings.Finding.{Finding}
 use Rattle.live_replay.proofs.AuditLemmas.{no_report_fault, one_report}
+use Rattle.live_replay.proofs.EachFound.{finds_each}
 use Rattle.live_replay.proofs.FindingLemmas.{agrees, look_agrees}
 use Rattle.live_replay.proofs.FindingTexts.{none_differ}
 use Rattle.live_replay.proofs.TrueReports.{judged_lines, judged_session, none_differ as lines_agree}
@@ -84,14 +88,17 @@ rows = start ∷ start ∷ start ∷ start ∷ start ∷ start ∷ start ∷ sta
 abbrev pub its_bytes : List ℕ
 its_bytes = codes "start\nstart\nstart\nstart\nstart\nstart\nstart\nstart\nstart\nstart\naccept,0,0,1,0@1=10 1@1=20\ncounts,0,2,18,0,0,0,0\n"
 
+abbrev its_verdict : VerdictLine
+its_verdict = record {
+  reader = 0;
+  verdict = record { query = 0; attempt = 1; kind = Accept };
+  reads = record { item = 0; cycle = 1; value = 10 } ∷ record { item = 1; cycle = 1; value = 20 } ∷ [];
+}
+
 abbrev pub report : Report
 report = record {
   history = ten;
-  verdicts = record {
-    reader = 0;
-    verdict = record { query = 0; attempt = 1; kind = Accept };
-    reads = record { item = 0; cycle = 1; value = 10 } ∷ record { item = 1; cycle = 1; value = 20 } ∷ [];
-  } ∷ [];
+  verdicts = its_verdict ∷ [];
   counts = record { reader = 0; counts = record { opened = 2; dozed = 18; late = 0; refused = 0; foreign = 0; copied = 0 } } ∷ [];
   glances = [];
   looks = [];
@@ -212,3 +219,31 @@ not_audit h =
     let same : findings small h.read ≡ findings small (read_in 11) = ap (findings small) (one_report small its_bytes h.read (read_in 11) h.is is_report) in
     let none : [] ≡ one_finding = h.are ∙ same ∙ its_findings in
     cc
+
+-- ---- what is found of each line
+
+its_each : FindsEach small (read_in 11) one_finding
+its_each = subst (FindsEach small (read_in 11)) its_findings (finds_each small its_bytes (read_in 11) is_report)
+
+-- It is found of row 11 that its verdict agrees, and the replay gives this verdict.
+its_line : FindsLine 11 (GivesVerdict small ten its_verdict) (record { row = 11; differs = None })
+its_line = its_each.verdicts 0 (record { row = 0; differs = None }) 0 its_verdict (omega arith)
+
+its_verdict_given : GivesVerdict small ten its_verdict
+its_verdict_given = its_line.1.0 refl
+
+-- So it isn't found that it differs, nor that another row agrees, nor nothing, nor a line more.
+not_found_differing : FindsLine 11 (GivesVerdict small ten its_verdict) (record { row = 11; differs = Some Verdict }) → ⊥
+not_found_differing h = let none : ◌≡◌ {A = Option Cause} (Some Verdict) None = h.1.1 its_verdict_given in cc
+
+not_each_differing : FindsEach small (read_in 11) (record { row = 11; differs = Some Verdict } ∷ []) → ⊥
+not_each_differing h = not_found_differing (h.verdicts 0 (record { row = 0; differs = None }) 0 its_verdict (omega arith))
+
+not_another_row : FindsEach small (read_in 11) (record { row = 10; differs = None } ∷ []) → ⊥
+not_another_row h = let row : 10 ≡ 11 = (h.verdicts 0 (record { row = 0; differs = None }) 0 its_verdict (omega arith)).0 in omega (arith, row)
+
+not_each_of_none : FindsEach small (read_in 11) [] → ⊥
+not_each_of_none h = let all : 0 ≡ 1 = h.all in omega (arith, all)
+
+not_each_of_two : FindsEach small (read_in 11) (record { row = 11; differs = None } ∷ record { row = 12; differs = None } ∷ []) → ⊥
+not_each_of_two h = let all : 2 ≡ 1 = h.all in omega (arith, all)

@@ -24,6 +24,7 @@ pub mod RowFindings
 pub mod TrueReports
 pub mod FindingTexts
 pub mod AuditLemmas
+pub mod EachFound
 pub mod AuditExamples
 mod TextExamples
 mod LimitExamples

@@ -1,5 +1,5 @@
--- The words of the laws of findings: what it means that a replay over a history gives a line.
-use Rattle.std.specs.Prelude.{◌≡◌, ◌↔◌, ℕ, false, List, length, All, IsSomeAnd, IsTrue, ⊤}
+-- The words of the laws of findings: what it means that a replay over a history gives a line, and that findings say so of each line.
+use Rattle.std.specs.Prelude.{◌≡◌, ◌↔◌, ◌+◌, ◌<◌, ℕ, false, List, length, get_or, All, IsSomeAnd, IsTrue, None, ⊤}
 use Rattle.air_base.specs.declared.verdicts.VerdictKind.{VerdictKind}
 use Rattle.air_base.specs.declared.verdicts.VerdictKind.TheVariants.{Accept, Abort, Aged, Unfinished}
 use Rattle.air_history.specs.declared.histories.Event.{Event}
@@ -14,7 +14,9 @@ use Rattle.air_model.specs.Reports.{total_at}
 use Rattle.air_model.specs.SessionLaws.{IsAged, are_far, decided_on}
 use Rattle.air_model.specs.declared.reports.LookLine.{LookLine}
 use Rattle.air_model.specs.declared.reports.VerdictLine.{VerdictLine}
+use Rattle.air_report.specs.declared.reading.ReadReport.{ReadReport}
 use Rattle.live_replay.specs.Findings.{place_of_line, places_read, read_in_cycle}
+use Rattle.live_replay.specs.declared.findings.Finding.{Finding}
 
 -- The named read of an abort or an aged attempt comes in time, and an abort's clashes with the held read of the named item.
 abbrev pub EndsSo : Scheme → ℕ → List Event → List ReadAt → VerdictKind → Type 0
@@ -38,3 +40,18 @@ pub record GivesVerdict (deck : Deck) (H : List Event) (line : VerdictLine) : Ty
 -- The replay over a history gives the total of a look or a glance.
 abbrev pub GivesLook : Deck → List Event → LookLine → Type 0
 GivesLook deck H line = line.total ≡ total_at (values_in deck) H line.cycle
+
+-- What is found of the line in this row: it agrees if and only if this holds.
+abbrev pub FindsLine : ℕ → Type 0 → Finding → Type 0
+FindsLine row Holds found = (found.row ≡ row) × ((found.differs ≡ None) ↔ Holds)
+
+-- The findings of a report by its own history: one of each verdict, then one of each glance, then one of each look, in order, and no other. Each is of
+-- its line's row, and says that the line agrees if and only if the replay gives the line.
+pub record FindsEach (deck : Deck) (read : ReadReport) (found : List Finding) : Type 0 where
+  pub verdicts : (k : ℕ) (f : Finding) (row : ℕ) (line : VerdictLine) → k < length read.report.verdicts
+      → FindsLine (get_or read.verdict_rows k row) (GivesVerdict deck read.report.history (get_or read.report.verdicts k line)) (get_or found k f)
+  pub glances : (k : ℕ) (f : Finding) (row : ℕ) (line : LookLine) → k < length read.report.glances
+      → FindsLine (get_or read.glance_rows k row) (GivesLook deck read.report.history (get_or read.report.glances k line)) (get_or found (length read.report.verdicts + k) f)
+  pub looks : (k : ℕ) (f : Finding) (row : ℕ) (line : LookLine) → k < length read.report.looks
+      → FindsLine (get_or read.look_rows k row) (GivesLook deck read.report.history (get_or read.report.looks k line)) (get_or found (length read.report.verdicts + length read.report.glances + k) f)
+  pub all : length found ≡ length read.report.verdicts + length read.report.glances + length read.report.looks
