@@ -9,7 +9,7 @@ use Rattle.air_cli.specs.Commands.{quiet_meaning}
 use Rattle.air_cli.specs.ReportsAndTapes.{ReportAndTape, given_status}
 use Rattle.air_cli.specs.Meanings.{no_command}
 use Rattle.air_cli.specs.Run.{run_meaning}
-use Rattle.air_cli.specs.Words.{AsksAudit, AsksBeam, AsksCast, AsksDrill, AsksListen, AsksPlan, AsksRun, AsksScript, AsksSeek, AsksSplit, AsksTune, asked_drill, asked_item, asked_of, asked_of_numbers, asked_of_one, asked_of_three, asked_of_two, asked_place, asked_seek, port_of}
+use Rattle.air_cli.specs.Words.{NeedsWait, AsksAudit, AsksBeam, AsksCast, AsksDrill, AsksListen, AsksPlan, AsksRun, AsksScript, AsksSeek, AsksSplit, AsksTune, asked_drill, asked_item, asked_of, asked_of_numbers, asked_of_one, asked_of_three, asked_of_two, asked_place, asked_seek, port_of}
 
 -- A shelf that tells nothing, and what words that are no command would give.
 abbrev nothing : ShelfState
@@ -68,6 +68,12 @@ pub record Words : Type 0 where
   cast_of_no_port : asked_of_numbers (codes "cast") (codes "d") (codes "0") ≡ None
   run : asked_of_two (codes "run") (codes "d") (codes "t") ≡ Some (AsksRun (codes "d") (codes "t"))
   empty_deck : asked_of (codes "cast" ∷ [] ∷ codes "7" ∷ []) ≡ None
+  -- Three commands wait.
+  run_waits : NeedsWait (Some (AsksRun (codes "d") (codes "t")))
+  cast_waits : NeedsWait (Some (AsksCast (codes "d") 7))
+  listen_waits : NeedsWait (Some (AsksListen (codes "d") 7))
+  script_ends : NeedsWait (Some (AsksScript (codes "d") (Some (codes "t")))) → ⊥
+  nothing_ends : NeedsWait None → ⊥
   -- Words that are no command have their status and no other, name no output, and give nothing.
   not_done : no_command.Refuses nothing nothing status.Ok → ⊥
   refused : (quiet_meaning None).Refuses nothing nothing status.Words
@@ -129,6 +135,11 @@ words = record {
   cast_of_no_port = refl;
   run = refl;
   empty_deck = refl;
+  run_waits = tt;
+  cast_waits = tt;
+  listen_waits = tt;
+  script_ends = λ h. h;
+  nothing_ends = λ h. h;
   not_done = λ h. let is : status.Ok ≡ status.Words = h in cc;
   refused = refl;
   no_waiting = refl;

@@ -28,6 +28,13 @@ abbrev pub HasSize : Request → Type 0
 HasSize (AsksDrill seed size) = (1 ≤ size) × (size ≤ MOST_DRILL_SIZE)
 HasSize other = ⊤
 
+-- The request, if there is one, is for a command that waits: `run`, `cast` or `listen`.
+abbrev pub NeedsWait : Option Request → Type 0
+NeedsWait (Some (AsksRun deck tape)) = ⊤
+NeedsWait (Some (AsksCast deck port)) = ⊤
+NeedsWait (Some (AsksListen deck port)) = ⊤
+NeedsWait other = ⊥
+
 -- A seed and a size ask for a drill if they are numbers, and a drill may have the size.
 abbrev pub asked_drill : Option ℕ → Option ℕ → Option Request
 asked_drill (Some seed) (Some size) = if nat_le 1 size && nat_le size MOST_DRILL_SIZE then Some (AsksDrill seed size) else None

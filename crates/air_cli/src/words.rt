@@ -1,7 +1,7 @@
 //! The words of a command, and the help on them.
 
-ghost use Rattle.std.specs.Prelude.{◌≡◌, option_map, map, string_bytes, IfSome};
-ghost use Rattle.air_cli.specs.Words.{HasSize, asked_drill, asked_of, asked_of_numbers, asked_of_one, asked_of_three, asked_of_two, asked_seek};
+ghost use Rattle.std.specs.Prelude.{◌≡◌, ◌↔◌, Some, option_map, map, string_bytes, IfSome, IsTrue};
+ghost use Rattle.air_cli.specs.Words.{HasSize, NeedsWait, asked_drill, asked_of, asked_of_numbers, asked_of_one, asked_of_three, asked_of_two, asked_seek};
 ghost use Rattle.air_cli.specs.Commands.{asked_by};
 
 pub(crate) mod places;
@@ -110,6 +110,33 @@ pub fn command_of<'a>(words: &'a [String]) -> Option<Command<'a>>
             command_of_three(name, first, second, third)
         }
         _ => None,
+    }
+}
+
+/// Whether the words ask for a command that waits. What other words ask for `air_quiet` runs too, and that one ends.
+pub fn waits(words: &[String]) -> bool
+    ensures waiting { IsTrue result ↔ NeedsWait (asked_of (map (λ w. string_bytes w) words.now)) }
+{
+    match command_of(words) {
+        Some(command) => needs_wait(&command),
+        None => false,
+    }
+}
+
+/// Whether a command waits.
+fn needs_wait(command: &Command) -> bool
+    ensures { IsTrue result ↔ NeedsWait (Some (asked_by command.now)) }
+{
+    match command {
+        Command::Run { .. } | Command::Cast { .. } | Command::Listen { .. } => true,
+        Command::Plan { .. }
+        | Command::Split { .. }
+        | Command::Script { .. }
+        | Command::Tune { .. }
+        | Command::Beam { .. }
+        | Command::Seek { .. }
+        | Command::Drill { .. }
+        | Command::Audit { .. } => false,
     }
 }
 
