@@ -24,11 +24,11 @@ use Rattle.air_cli.specs.NamedFiles.{UnreadCause}
 use Rattle.air_cli.specs.RunnableDecks.{UnrunnableCause}
 use Rattle.air_model.specs.Runs.{IsRun, Run}
 use Rattle.air_cli.specs.Answers.{NoCountRose}
-use Rattle.air_cli.specs.Cast.{CastCause, HasSent, IsCast, cast_meaning}
+use Rattle.air_cli.specs.Cast.{CastCause, HasSent, IsCast, IsCastRefusal, cast_meaning}
 use Rattle.air_cli.specs.Words.{AsksCast}
 use Rattle.air_cli.specs.OnAir.{LeavesMast}
 use Rattle.air_cli.specs.Run.{CanRun, RunCause}
-use Rattle.air_cli.specs.Private.Airing.{IsCastRefusal, cast_status}
+use Rattle.air_cli.specs.Private.Airing.{cast_status}
 use Rattle.air_cli.specs.ToldInputs.{TellsInputs}
 use Rattle.air_cli.proofs.AnswerLemmas.{only_text}
 use Rattle.air_cli.proofs.InputLemmas.{CommandFacts}
@@ -51,6 +51,12 @@ refused_cast deck to old new before now d (status.TooLong bytes) spells made sho
 refused_cast deck to old new before now d (status.AirFault at) spells made short h some = (d, spells, made, ((short, h.0), h.1))
 refused_cast deck to old new before now d status.NoMemory spells made short h some = absurd (some refl)
 refused_cast deck to old new before now d s spells made short h some = absurd h
+
+-- Out of memory, the mast has not failed.
+pub calm_cast : (d : Deck) (to : ℕ) (before now : MastState) (s : Status) → IsCastRefusal d to before now s → s ≡ status.NoMemory → now.faults ≡ before.faults
+unfolding IsCastRefusal
+calm_cast d to before now status.NoMemory h none = h
+calm_cast d to before now s h none = absurd (cc none)
 
 cast_still : (deck : List ℕ) (to : ℕ) (old new : MastState) (before mid now : ShelfState) (s : Status) → KeepsButPrinted mid.told now.told → NoCountFalls mid.faults now.faults
     → CastCause deck to old new before mid s → CastCause deck to old new before now s
@@ -102,7 +108,7 @@ pub fault_refused : (d : Deck) (to : ℕ) (before now : MastState) (f : RunFault
     → IsCastRefusal d to before now (cast_status f)
 unfolding IsCastRefusal
 fault_refused d to before now (fault.Mast at) few h port = (few, record { rose = h.0; sent = h.1; port = port })
-fault_refused d to before now fault.NoMemory few h port = tt
+fault_refused d to before now fault.NoMemory few h port = h.0
 
 -- What a cast leaves of the mast.
 pub leaves_cast : (deck : List ℕ) (to : ℕ) (shelf : ShelfState) (before now : MastState) (d : Deck) → SpellsDeck deck shelf d → IsDeck d × WithinLimits d

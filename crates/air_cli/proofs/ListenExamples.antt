@@ -7,7 +7,7 @@ use Rattle.air_report.specs.declared.status.Status.TheVariants as status
 use Rattle.live_replay.proofs.AuditExamples.{small}
 use Rattle.air_cli.specs.ReportsAndTapes.{ReportAndTape}
 use Rattle.air_cli.specs.Hearings.{AreFirstHeard, IsHeardOnEar, TakesJust, TakesUpTo, heard_bytes}
-use Rattle.air_cli.specs.Listen.{HasHeardPort, IsBrokenListening, IsListening, ListenCause, ListenGives, listen_meaning}
+use Rattle.air_cli.specs.Listen.{HasHeardPort, IsBrokenListening, IsListenRefusal, IsListening, ListenCause, ListenGives, listen_meaning}
 use Rattle.air_cli.specs.Tune.{tune_given}
 use Rattle.air_cli.specs.declared.commands.hearings.TheConstants.{MOST_HEARD_BYTES}
 use Rattle.air_cli.proofs.CommandExamples.{is_true_tape}
@@ -109,6 +109,15 @@ not_has_heard h = let port : ◌≡◌ {A = Option ℕ} None (Some 7) = h.port i
 listen_cause : ListenCause (codes "d") 7 (fresh_ear (a ∷ b ∷ [])) (record (tuned (b ∷ [])) { faults = 1 }) shelf shelf (status.AirFault 1)
 unfolding ListenCause
 listen_cause = (small, spells_deck, small_made, (short, is_broken))
+
+-- Out of memory, the ear may have heard datagrams, but it didn't fail.
+listening_without_memory : IsListenRefusal small 7 (fresh_ear (a ∷ b ∷ [])) (tuned (b ∷ [])) status.NoMemory
+unfolding IsListenRefusal
+listening_without_memory = refl
+
+not_without_memory : IsListenRefusal small 7 (fresh_ear (a ∷ b ∷ [])) (record (tuned (b ∷ [])) { faults = 1 }) status.NoMemory → ⊥
+unfolding IsListenRefusal
+not_without_memory h = omega (arith, h)
 
 -- Readers of a deck that can't be read never tuned in.
 not_listen_cause : ListenCause (codes "d") 7 (fresh_ear []) (tuned []) shelf shelf status.ReadFault → ⊥

@@ -21,10 +21,10 @@ use Rattle.air_cli.proofs.CauseLemmas.{of_had}
 use Rattle.air_cli.specs.NamedFiles.{UnreadCause}
 use Rattle.air_cli.specs.RunnableDecks.{UnrunnableCause}
 use Rattle.air_cli.specs.Answers.{NoCountRose}
-use Rattle.air_cli.specs.Listen.{HasHeardPort, IsListening, ListenCause, listen_meaning}
+use Rattle.air_cli.specs.Listen.{HasHeardPort, IsListenRefusal, IsListening, ListenCause, listen_meaning}
 use Rattle.air_cli.specs.Words.{AsksListen}
 use Rattle.air_cli.specs.OnAir.{LeavesEar}
-use Rattle.air_cli.specs.Private.Airing.{IsListenRefusal, hear_status}
+use Rattle.air_cli.specs.Private.Airing.{hear_status}
 use Rattle.air_cli.specs.ToldInputs.{TellsInputs}
 use Rattle.air_cli.specs.Truths.{IsTrueTape}
 use Rattle.air_cli.proofs.AnswerLemmas.{only_text}
@@ -47,6 +47,12 @@ unfolding ListenCause UnrunnableCause DeckCause UnreadCause IsListenRefusal
 refused_listen deck on old new before now d (status.AirFault at) spells made short h some = (d, spells, made, (short, h))
 refused_listen deck on old new before now d status.NoMemory spells made short h some = absurd (some refl)
 refused_listen deck on old new before now d s spells made short h some = absurd h
+
+-- Out of memory, the ear has not failed.
+pub calm_listen : (d : Deck) (on : ℕ) (before now : EarState) (s : Status) → IsListenRefusal d on before now s → s ≡ status.NoMemory → now.faults ≡ before.faults
+unfolding IsListenRefusal
+calm_listen d on before now status.NoMemory h none = h
+calm_listen d on before now s h none = absurd (cc none)
 
 listen_still : (deck : List ℕ) (on : ℕ) (old new : EarState) (before mid now : ShelfState) (s : Status) → KeepsButPrinted mid.told now.told → NoCountFalls mid.faults now.faults
     → ListenCause deck on old new before mid s → ListenCause deck on old new before now s
@@ -101,7 +107,7 @@ pub fault_refused : (d : Deck) (on : ℕ) (before now : EarState) (f : HearFault
     → IsListenRefusal d on before now (hear_status f)
 unfolding IsListenRefusal
 fault_refused d on before now (fault.Ear at) h port = record { rose = h.0; few = h.1; taken = h.2; port = port }
-fault_refused d on before now fault.NoMemory h port = tt
+fault_refused d on before now fault.NoMemory h port = h.0
 
 -- What listening leaves of the ear.
 pub leaves_listen : (deck : List ℕ) (on : ℕ) (shelf : ShelfState) (before now : EarState) (d : Deck) → SpellsDeck deck shelf d → IsDeck d × WithinLimits d

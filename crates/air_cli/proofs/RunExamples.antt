@@ -40,7 +40,7 @@ use Rattle.deck_runs.specs.RunTruths.{IsTrueRun}
 use Rattle.deck_runs.proofs.HeardRunLemmas.{OneHistoryLaw, true_run}
 use Rattle.live_replay.proofs.AuditExamples.{its_bytes, small, small_is_deck, ten}
 use Rattle.chunk_program.specs.Plans.{AreShort}
-use Rattle.air_cli.specs.Cast.{CastCause, CastGives, HasSent, IsBrokenCast, IsCast, cast_meaning}
+use Rattle.air_cli.specs.Cast.{CastCause, CastGives, HasSent, IsBrokenCast, IsCast, IsCastRefusal, cast_meaning}
 use Rattle.air_cli.specs.ReportsAndTapes.{ReportAndTape}
 use Rattle.air_cli.specs.GivenRuns.{IsGivenRun}
 use Rattle.air_cli.specs.Run.{RunCause, RunGives, run_meaning}
@@ -192,6 +192,15 @@ not_after_end h = elim h.sent as (λ _. ⊥) [
 cast_cause : CastCause (codes "d") 7 fresh_mast (record (aimed nothing_sent) { faults = 1 }) shelf shelf (status.AirFault 0)
 unfolding CastCause
 cast_cause = (small, spells_deck, small_made, (can_run, is_broken))
+
+-- Out of memory, the mast may have sent the first buckets, but it didn't fail.
+cast_without_memory : IsCastRefusal small 7 fresh_mast (aimed nothing_sent) status.NoMemory
+unfolding IsCastRefusal
+cast_without_memory = refl
+
+not_without_memory : IsCastRefusal small 7 fresh_mast (record (aimed nothing_sent) { faults = 1 }) status.NoMemory → ⊥
+unfolding IsCastRefusal
+not_without_memory h = omega (arith, h)
 
 -- A cast that is refused for its deck or its length never aimed.
 not_cast_cause : (bytes : ℕ) → CastCause (codes "d") 7 fresh_mast (aimed nothing_sent) shelf shelf (status.TooLong bytes) → ⊥

@@ -1,5 +1,6 @@
 -- The command `cast DECK PORT`. Its meaning is also about the mast, before and after the call.
 use Rattle.std.specs.Prelude.{◌≡◌, ◌⊎◌, ◌≤◌, ℕ, false, List, [], Some}
+use Rattle.air_base.specs.declared.limits.TheConstants.{MOST_TAPE_BYTES}
 use Rattle.deck_runs.specs.Casts.{IsCastBeginning, all_sent}
 use Rattle.air_devices.specs.Counts.{Rose}
 use Rattle.air_devices.specs.Masts.{Changes, MastState}
@@ -10,6 +11,7 @@ use Rattle.air_model.specs.Outputs.{cast_output}
 use Rattle.air_sender.specs.AiredBytes.{aired_bytes}
 use Rattle.air_report.specs.declared.status.Status.{Status}
 use Rattle.air_report.specs.declared.status.Status.TheVariants as status
+use Rattle.deck_runs.specs.RunTapes.{IsLongRun, run_tape_len}
 use Rattle.deck_runs.specs.RunTruths.{IsTrueRun, TellsHistory}
 use Rattle.air_cli.specs.NamedDecks.{HasDeck}
 use Rattle.air_cli.specs.ReportsAndTapes.{ReportAndTape}
@@ -41,6 +43,14 @@ pub record HasSent (d : Deck) (to : ℕ) (before now : MastState) : Type 0 where
       ⊎ ((H : List Event) × IsWhole d H × Changes (λ _. all_sent (aired_bytes d H)) before.told now.told × (now.faults ≡ before.faults))
   pub later : before.faults ≤ now.faults
   pub port : now.port ≡ Some to
+
+-- Why a deck that has plans isn't cast. The tape of its run would be too long, and the mast is as it was; or it would not, and the mast failed. Out of
+-- memory, no call of the mast failed.
+unfoldable pub IsCastRefusal : Deck → ℕ → MastState → MastState → Status → Type 0
+IsCastRefusal d to before now (status.TooLong bytes) = IsLongRun d bytes × (now ≡ before)
+IsCastRefusal d to before now (status.AirFault at) = (run_tape_len d ≤ MOST_TAPE_BYTES) × IsBrokenCast d to at before now
+IsCastRefusal d to before now status.NoMemory = now.faults ≡ before.faults
+IsCastRefusal d to before now other = ⊥
 
 -- Why it is refused. The mast failed, and some well-made deck can be run, that of the named file if it is told; or a run is refused for this reason,
 -- and the mast is as it was.

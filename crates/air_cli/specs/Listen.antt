@@ -37,6 +37,12 @@ pub record HasHeardPort (d : Deck) (on : ℕ) (before now : EarState) : Type 0 w
   pub later : before.faults ≤ now.faults
   pub port : now.port ≡ Some on
 
+-- Why a deck's readers don't report: the ear failed. Out of memory, no call of the ear failed.
+unfoldable pub IsListenRefusal : Deck → ℕ → EarState → EarState → Status → Type 0
+IsListenRefusal d on before now (status.AirFault at) = IsBrokenListening d on at before now
+IsListenRefusal d on before now status.NoMemory = now.faults ≡ before.faults
+IsListenRefusal d on before now other = ⊥
+
 -- Why it is refused. The ear failed, and some well-made deck can be run, that of the named file if it is told; or the deck can't be run, and the ear
 -- is as it was.
 unfoldable pub ListenCause : List ℕ → ℕ → EarState → EarState → ShelfState → ShelfState → Status → Type 0

@@ -16,7 +16,9 @@ mod truths;
 pub mod words;
 
 pub use air_report::Status;
+pub use commands::cast::cast_on_air;
 pub use commands::hearings::{HearFault, ear_sessions};
+pub use commands::listen::hear_on_air;
 pub use commands::run_on_air::run_on_air;
 pub use deck_runs::{ConductFault, conductor_job, group_conductor_job, monitor_job, updater_job};
 pub use files::decks::read_deck_file;

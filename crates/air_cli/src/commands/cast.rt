@@ -6,10 +6,10 @@ ghost use Rattle.air_devices.specs.Masts.{nothing_sent};
 ghost use Rattle.air_devices.specs.WhatIsTold.{WhereTold};
 ghost use Rattle.deck_runs.specs.RunTapes.{run_tape_len};
 ghost use Rattle.air_model.specs.Runs.{Run};
-ghost use Rattle.air_cli.specs.Cast.{HasSent, IsCast, cast_meaning};
+ghost use Rattle.air_cli.specs.Cast.{HasSent, IsCast, IsCastRefusal, cast_meaning};
 ghost use Rattle.air_cli.specs.Words.{AsksCast};
 ghost use Rattle.air_cli.specs.OnAir.{LeavesMast};
-ghost use Rattle.air_cli.specs.Private.Airing.{IsCastRefusal, cast_status};
+ghost use Rattle.air_cli.specs.Private.Airing.{cast_status};
 ghost use Rattle.air_cli.specs.Private.BeforeDelivery.{IsMade, IsUnmade, ReadsInputs};
 
 use crate::commands::reports::cast_report;
@@ -25,7 +25,7 @@ use std::sync::Wait;
 use std::thread::Threads;
 
 /// The report of a run of the named deck, which is cast to a port.
-#[tactic(auto, using(crate::proofs::MakeLemmas::is_unmade, crate::proofs::MakeLemmas::is_unmade_calm, crate::proofs::CastLemmas::unrunnable_cast, crate::proofs::CastLemmas::refused_cast, crate::proofs::CastLemmas::leaves_cast))]
+#[tactic(auto, using(crate::proofs::MakeLemmas::is_unmade, crate::proofs::MakeLemmas::is_unmade_calm, crate::proofs::CastLemmas::unrunnable_cast, crate::proofs::CastLemmas::refused_cast, crate::proofs::CastLemmas::calm_cast, crate::proofs::CastLemmas::leaves_cast))]
 pub(crate) fn cast<R: Threads + Wait + Sync, S: Shelf, M: Mast + Send, G: Gate + Sync>(
     rt: &R,
     alloc: Global,
@@ -39,6 +39,7 @@ pub(crate) fn cast<R: Threads + Wait + Sync, S: Shelf, M: Mast + Send, G: Gate +
     requires unsent { WhereTold (M.state mast.old).told (λ s. s ≡ nothing_sent) }
     ensures made { IfOk result (IsMade (cast_meaning name.now port (M.state mast.old) (M.state mast.new)) (S.state shelf.old) (S.state shelf.new)) }
     ensures unmade { IfErr result (IsUnmade (cast_meaning name.now port (M.state mast.old) (M.state mast.new)) (S.state shelf.old) (S.state shelf.new)) }
+    ensures calm { IfErr result (λ s. s ≡ Status.NoMemory → (M.state mast.new).faults ≡ (M.state mast.old).faults) }
     ensures reads { ReadsInputs (cast_meaning name.now port (M.state mast.old) (M.state mast.new)) (S.state shelf.old) (S.state shelf.new) }
     ensures mast { LeavesMast (Some (AsksCast name.now port)) (S.state shelf.old) (M.state mast.old) (M.state mast.new) }
 {
@@ -47,9 +48,10 @@ pub(crate) fn cast<R: Threads + Wait + Sync, S: Shelf, M: Mast + Send, G: Gate +
     Ok(given)
 }
 
-/// The report of a run of a deck, which is cast to a port. A deck whose tape would be too long is refused before the mast is aimed.
-#[tactic(auto, unfolding(crate::specs::Private::Airing::IsCastRefusal), using(crate::proofs::CastLemmas::all_cast, crate::proofs::CastLemmas::part_cast, crate::proofs::CastLemmas::is_cast, crate::proofs::CastLemmas::fault_refused))]
-fn cast_on_air<R: Threads + Wait + Sync, M: Mast + Send, G: Gate + Sync>(
+/// The report of a run of a deck, which is cast to a port. A deck whose tape would be too long is refused before the mast is aimed. Out of memory, no
+/// call of the mast failed.
+#[tactic(auto, unfolding(crate::specs::Cast::IsCastRefusal), using(crate::proofs::CastLemmas::all_cast, crate::proofs::CastLemmas::part_cast, crate::proofs::CastLemmas::is_cast, crate::proofs::CastLemmas::fault_refused))]
+pub fn cast_on_air<R: Threads + Wait + Sync, M: Mast + Send, G: Gate + Sync>(
     rt: &R,
     alloc: Global,
     planned: &Planned,

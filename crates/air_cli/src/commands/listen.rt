@@ -1,10 +1,10 @@
 //! The command `listen`: what a named deck's readers hear on a port.
 
 ghost use Rattle.std.specs.Prelude.{◌≡◌, ◌⊎◌, ℕ, List, None, Some, IfErr, IfOk};
-ghost use Rattle.air_cli.specs.Listen.{HasHeardPort, IsListening, listen_meaning};
+ghost use Rattle.air_cli.specs.Listen.{HasHeardPort, IsListenRefusal, IsListening, listen_meaning};
 ghost use Rattle.air_cli.specs.Words.{AsksListen};
 ghost use Rattle.air_cli.specs.OnAir.{LeavesEar};
-ghost use Rattle.air_cli.specs.Private.Airing.{IsListenRefusal, hear_status};
+ghost use Rattle.air_cli.specs.Private.Airing.{hear_status};
 ghost use Rattle.air_cli.specs.Private.BeforeDelivery.{IsMade, IsUnmade, ReadsInputs};
 
 use crate::commands::hearings::{HearFault, ear_sessions};
@@ -18,7 +18,7 @@ use chunk_program::Planned;
 use std::alloc::Global;
 
 /// The report of the named deck's readers over what they hear on a port.
-#[tactic(auto, using(crate::proofs::MakeLemmas::is_unmade, crate::proofs::MakeLemmas::is_unmade_calm, crate::proofs::ListenLemmas::unrunnable_listen, crate::proofs::ListenLemmas::refused_listen, crate::proofs::ListenLemmas::leaves_listen))]
+#[tactic(auto, using(crate::proofs::MakeLemmas::is_unmade, crate::proofs::MakeLemmas::is_unmade_calm, crate::proofs::ListenLemmas::unrunnable_listen, crate::proofs::ListenLemmas::refused_listen, crate::proofs::ListenLemmas::calm_listen, crate::proofs::ListenLemmas::leaves_listen))]
 pub(crate) fn listen<S: Shelf, E: Ear>(
     alloc: Global,
     shelf: &mut S,
@@ -29,6 +29,7 @@ pub(crate) fn listen<S: Shelf, E: Ear>(
     requires untuned { (E.state ear.old).port ≡ None }
     ensures made { IfOk result (IsMade (listen_meaning name.now port (E.state ear.old) (E.state ear.new)) (S.state shelf.old) (S.state shelf.new)) }
     ensures unmade { IfErr result (IsUnmade (listen_meaning name.now port (E.state ear.old) (E.state ear.new)) (S.state shelf.old) (S.state shelf.new)) }
+    ensures calm { IfErr result (λ s. s ≡ Status.NoMemory → (E.state ear.new).faults ≡ (E.state ear.old).faults) }
     ensures reads { ReadsInputs (listen_meaning name.now port (E.state ear.old) (E.state ear.new)) (S.state shelf.old) (S.state shelf.new) }
     ensures ear { LeavesEar (Some (AsksListen name.now port)) (S.state shelf.old) (E.state ear.old) (E.state ear.new) }
 {
@@ -37,9 +38,9 @@ pub(crate) fn listen<S: Shelf, E: Ear>(
     Ok(given)
 }
 
-/// The report of a deck's readers over what they hear on a port.
-#[tactic(auto, unfolding(crate::specs::Private::Airing::IsListenRefusal), using(crate::proofs::ListenLemmas::all_heard, crate::proofs::ListenLemmas::part_heard, crate::proofs::ListenLemmas::fault_refused))]
-fn hear_on_air<E: Ear>(
+/// The report of a deck's readers over what they hear on a port. Out of memory, no call of the ear failed.
+#[tactic(auto, unfolding(crate::specs::Listen::IsListenRefusal), using(crate::proofs::ListenLemmas::all_heard, crate::proofs::ListenLemmas::part_heard, crate::proofs::ListenLemmas::fault_refused))]
+pub fn hear_on_air<E: Ear>(
     alloc: Global,
     planned: &Planned,
     ear: &mut E,
