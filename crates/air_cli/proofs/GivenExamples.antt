@@ -1,5 +1,5 @@
 -- What commands give, part by part: which text, which tape, over which bytes, and that nothing else is given.
-use Rattle.std.proofs.Common.{◌≡◌, ◌≤◌, ℕ, List, [], ◌∷◌, Option, Some, None, length, map, refl, ap, subst, arith}
+use Rattle.std.proofs.Common.{◌≡◌, ◌↔◌, ◌≤◌, ℕ, List, [], ◌∷◌, Option, Some, None, get_or, length, map, refl, ap, subst, arith}
 use Rattle.std.proofs.lemmas.List.{length-take-le}
 use Rattle.std.specs.Prelude.{All, codes}
 use Rattle.air_devices.specs.Masts.{fresh_mast}
@@ -17,8 +17,12 @@ use Rattle.air_model.specs.Runs.{Run}
 use Rattle.air_model.specs.Tapes.{ends_inside, read_from, tape_read}
 use Rattle.air_model.specs.declared.reports.LookLine.{LookLine}
 use Rattle.air_model.specs.declared.reports.VerdictLine.{VerdictLine}
+use Rattle.air_report.specs.declared.reading.ReadReport.{ReadReport}
+use Rattle.air_report.specs.declared.status.Status.{Status}
 use Rattle.air_report.specs.declared.status.Status.TheVariants as status
-use Rattle.live_replay.specs.FindingLaws.{GivesLook, GivesVerdict}
+use Rattle.live_replay.specs.Audits.{findings}
+use Rattle.live_replay.specs.FindingLaws.{FindsEach, GivesLook, GivesVerdict}
+use Rattle.live_replay.specs.declared.findings.Finding.{Finding}
 use Rattle.live_replay.proofs.AuditExamples.{small}
 use Rattle.scripts.specs.DrillLines.{drill_output}
 use Rattle.air_cli.specs.Cast.{IsCast}
@@ -114,6 +118,14 @@ reports_heard = record {
 first : {X : Type 0} (P : X → Type 0) (x : X) (xs all : List X) → all ≡ x ∷ xs → All P all → P x
 first P x xs all is each = (subst (λ l. All P l) is each) 0 x (omega arith)
 
+-- What is found of the first verdict.
+first_of : (d : Deck) (read : ReadReport) (f : Finding) (found : List Finding) (line : VerdictLine) (lines : List VerdictLine) → findings d read ≡ f ∷ found → read.report.verdicts ≡ line ∷ lines
+    → FindsEach d read (findings d read) → (f.differs ≡ None) ↔ GivesVerdict d read.report.history line
+first_of d read f found line lines are is each =
+    let its = (each.verdicts 0 f 0 line (omega (arith, ap length is))).1 in
+    subst (λ ls. (f.differs ≡ None) ↔ GivesVerdict d read.report.history (get_or ls 0 line)) is
+    (subst (λ fs. ((get_or fs 0 f).differs ≡ None) ↔ GivesVerdict d read.report.history (get_or read.report.verdicts 0 line)) are its)
+
 pub record Stands : Type 0 where
   -- the named output holds the tape after the call
   written : (now : ShelfState) (h : ScriptStands (codes "d") (Some (codes "o")) shelf now) → now.told.output (codes "o") ≡ Some (script_tape h.d)
@@ -121,6 +133,9 @@ pub record Stands : Type 0 where
   verdict : (now : ShelfState) (h : AuditStands (codes "d") (codes "r") shelf now status.Ok) (line : VerdictLine) (lines : List VerdictLine) → h.read.report.verdicts ≡ line ∷ lines → GivesVerdict h.d h.read.report.history line
   glance : (now : ShelfState) (h : AuditStands (codes "d") (codes "r") shelf now status.Ok) (line : LookLine) (lines : List LookLine) → h.read.report.glances ≡ line ∷ lines → GivesLook h.d h.read.report.history line
   look : (now : ShelfState) (h : AuditStands (codes "d") (codes "r") shelf now status.Ok) (line : LookLine) (lines : List LookLine) → h.read.report.looks ≡ line ∷ lines → GivesLook h.d h.read.report.history line
+  -- whatever the status is, the first finding agrees with the first verdict just if the replay gives it
+  first_found : (now : ShelfState) (s : Status) (h : AuditStands (codes "d") (codes "r") shelf now s) (f : Finding) (found : List Finding) (line : VerdictLine) (lines : List VerdictLine)
+      → findings h.d h.read ≡ f ∷ found → h.read.report.verdicts ≡ line ∷ lines → (f.differs ≡ None) ↔ GivesVerdict h.d h.read.report.history line
   -- if it is another, the replay doesn't give all lines
   not_all : (now : ShelfState) (h : AuditStands (codes "d") (codes "r") shelf now status.Differs) → All (GivesVerdict h.d h.read.report.history) h.read.report.verdicts
       → All (GivesLook h.d h.read.report.history) h.read.report.glances → All (GivesLook h.d h.read.report.history) h.read.report.looks → ⊥
@@ -131,5 +146,6 @@ stands = record {
   verdict = λ now h line lines is. first (GivesVerdict h.d h.read.report.history) line lines h.read.report.verdicts is (h.agrees.0 refl).0;
   glance = λ now h line lines is. first (GivesLook h.d h.read.report.history) line lines h.read.report.glances is (h.agrees.0 refl).1;
   look = λ now h line lines is. first (GivesLook h.d h.read.report.history) line lines h.read.report.looks is (h.agrees.0 refl).2;
+  first_found = λ now s h f found line lines are is. first_of h.d h.read f found line lines are is h.each;
   not_all = λ now h verdicts glances looks. let ok : status.Differs ≡ status.Ok = h.agrees.1 (verdicts, glances, looks) in cc;
 }

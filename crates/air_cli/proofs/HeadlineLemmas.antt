@@ -16,6 +16,7 @@ use Rattle.air_report.specs.declared.status.Status.{Status}
 use Rattle.deck_runs.specs.Casts.{all_sent}
 use Rattle.air_sender.specs.AiredBytes.{aired_bytes}
 use Rattle.live_replay.specs.FindingTexts.{findings_text, some_differ}
+use Rattle.live_replay.proofs.EachFound.{finds_each}
 use Rattle.air_cli.specs.Answers.{IsSuccess, QuietAnswers}
 use Rattle.air_cli.specs.Audit.{AuditGives, audit_meaning}
 use Rattle.air_cli.specs.Cast.{CastGives, cast_meaning}
@@ -179,6 +180,7 @@ audit_stands deck report before now s given (found, given_is, (d, spells, made, 
       is = where_read (before.told.file report) bytes (λ b. IsReportOf d b read) known is.is;
       legal = is.is.spelled.report.legal;
       printed = subst (λ found. NowPrints (findings_text found) before now) is.are (prints (findings_text found) before now went.printed);
+      each = finds_each d bytes read is.is;
       agrees = ends_given d bytes read is.is is.true_of s (ends ∙ ap (λ (g : ReportAndTape). given_status g.differs) given_is ∙ ap (λ found. given_status (some_differ found)) is.are);
     }
 

@@ -21,6 +21,7 @@ use Rattle.item_catalog.specs.DeckLimits.{WithinLimits}
 use Rattle.air_report.specs.declared.status.Status.TheVariants as status
 use Rattle.deck_runs.specs.RunTruths.{TellsHistory}
 use Rattle.live_replay.specs.Audits.{findings}
+use Rattle.live_replay.specs.FindingLaws.{FindsEach}
 use Rattle.live_replay.specs.FindingTexts.{findings_text}
 use Rattle.live_replay.specs.Findings.{places_read}
 use Rattle.live_replay.proofs.AuditExamples.{small}
@@ -141,6 +142,7 @@ pub record Audits : Type 0 where
   made : (now : ShelfState) (h : AuditStands (codes "d") (codes "r") shelf now status.Ok) → (IsDeck h.d × WithinLimits h.d → ⊥) → ⊥
   legal : (now : ShelfState) (h : AuditStands (codes "d") (codes "r") shelf now status.Ok) → (IsLegal h.d h.read.report.history → ⊥) → ⊥
   printed : (now : ShelfState) (h : AuditStands (codes "d") (codes "r") shelf now status.Ok) → (NowPrints (findings_text (findings h.d h.read)) shelf now → ⊥) → ⊥
+  each : (now : ShelfState) (h : AuditStands (codes "d") (codes "r") shelf now status.Ok) → (FindsEach h.d h.read (findings h.d h.read) → ⊥) → ⊥
 
 audits : Audits
 audits = record {
@@ -148,6 +150,7 @@ audits = record {
   made = λ now h no. no h.made;
   legal = λ now h no. no h.legal;
   printed = λ now h no. no h.printed;
+  each = λ now h no. no h.each;
 }
 
 -- A report over what was heard, and a verdict.

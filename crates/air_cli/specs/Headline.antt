@@ -34,7 +34,7 @@ use Rattle.deck_runs.specs.Casts.{all_sent}
 use Rattle.air_sender.specs.AiredBytes.{aired_bytes}
 use Rattle.deck_runs.specs.RunTruths.{TellsHistory}
 use Rattle.live_replay.specs.Audits.{findings}
-use Rattle.live_replay.specs.FindingLaws.{GivesLook, GivesVerdict}
+use Rattle.live_replay.specs.FindingLaws.{FindsEach, GivesLook, GivesVerdict}
 use Rattle.live_replay.specs.FindingTexts.{findings_text}
 use Rattle.live_replay.specs.Findings.{places_read}
 use Rattle.air_cli.specs.Hearings.{heard_bytes}
@@ -164,8 +164,9 @@ pub record ListenStands (deck : List ℕ) (port : ℕ) (ear ear_now : EarState) 
   pub heard : IsHeardReport d datagrams report
   pub printed : NowPrints (report_text report) before now
 
--- `audit DECK REPORT`: the files spell a well-made deck and a report of it. The findings of the report were printed. The status is 0 if and only if
--- the replay over the report's own history gives every line: each verdict with the values of its reads, and each total.
+-- `audit DECK REPORT`: the files spell a well-made deck and a report of it. The findings of the report were printed, one of each line, in order. Each
+-- agrees with its line if and only if the replay over the report's own history gives the line: a verdict with the values of its reads, or a total. The
+-- status is 0 if and only if the replay gives every line.
 pub record AuditStands (deck report : List ℕ) (before now : ShelfState) (s : Status) : Type 0 where
   pub d : Deck
   pub read : ReadReport
@@ -174,6 +175,7 @@ pub record AuditStands (deck report : List ℕ) (before now : ShelfState) (s : S
   pub is : WhereTold (before.told.file report) (λ bytes. IsReportOf d bytes read)
   pub legal : IsLegal d read.report.history
   pub printed : NowPrints (findings_text (findings d read)) before now
+  pub each : FindsEach d read (findings d read)
   pub agrees : (s ≡ status.Ok) ↔ (All (GivesVerdict d read.report.history) read.report.verdicts
       × All (GivesLook d read.report.history) read.report.glances × All (GivesLook d read.report.history) read.report.looks)
 
