@@ -14,3 +14,4 @@ pub mod main_pins;
 pub mod on_air_pins;
 pub mod output_pins;
 pub mod touch_pins;
+pub mod word_pins;
