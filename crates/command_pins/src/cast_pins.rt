@@ -1,12 +1,14 @@
 //! These pins say what `cast_run` sends to a mast in memory, and what `ear_sessions` leaves of three datagrams that wait at an ear in memory. They
-//! fix the port, the end of what was sent, and the cause of each failure of a device.
+//! fix the port, the end of what was sent, and the cause of each failure of a device. Of `cast_on_air` and `hear_on_air` they say that a device which
+//! failed isn't told as a lack of memory.
 
 ghost use Rattle.std.specs.Prelude.{◌≡◌, ◌≤◌, ◌+◌, ℕ, [], ◌∷◌, length, Err, None, Some, OnErr, OnOk};
 ghost use Rattle.air_devices.specs.Masts.{nothing_sent};
 ghost use Rattle.air_devices.specs.MemoryMasts.{told_by_mast};
 
-use air_cli::{HearFault, ear_sessions};
+use air_cli::{HearFault, ReportAndTape, cast_on_air, ear_sessions, hear_on_air};
 use air_devices::{Gate, MemEar, MemMast};
+use air_report::Status;
 use chunk_program::Planned;
 use deck_runs::{Run, RunFault, cast_run};
 use listeners::Sessions;
@@ -58,4 +60,39 @@ pub fn tuned_to_another_port(
     ensures cause { (heard : ℕ) → result ≡ Err (HearFault.Ear heard) → 1 ≤ ear.new.calls.faults }
 {
     ear_sessions(alloc, planned, ear, 4001)
+}
+
+/// A cast that is out of memory has counted no failure of the mast: a mast that failed is answered with the number of buckets sent.
+/// Promise: every answer is a named one
+/// Promise: what goes over the air
+#[tactic(auto, unfolding(air_cli::specs::Cast::IsCastRefusal))]
+pub fn failed_mast_told_as_no_memory<R: Threads + Wait + Sync, G: Gate + Sync>(
+    rt: &R,
+    alloc: Global,
+    planned: &Planned,
+    mast: &mut MemMast,
+    gate: &G,
+) -> Result<ReportAndTape, Status>
+    requires unaimed { mast.old.port ≡ None }
+    requires unsent { told_by_mast mast.old ≡ nothing_sent }
+    requires faults { mast.old.calls.faults ≡ 0 }
+    ensures { result ≡ Err Status.NoMemory → mast.new.calls.faults ≡ 0 }
+{
+    cast_on_air(rt, alloc, planned, mast, 4001, gate)
+}
+
+/// Readers that are out of memory have counted no failure of the ear: an ear that failed is answered with the number of datagrams heard.
+/// Promise: every answer is a named one
+/// Promise: what goes over the air
+#[tactic(auto, unfolding(air_cli::specs::Listen::IsListenRefusal))]
+pub fn failed_ear_told_as_no_memory(
+    alloc: Global,
+    planned: &Planned,
+    ear: &mut MemEar,
+) -> Result<ReportAndTape, Status>
+    requires untuned { ear.old.port ≡ None }
+    requires faults { ear.old.calls.faults ≡ 0 }
+    ensures { result ≡ Err Status.NoMemory → ear.new.calls.faults ≡ 0 }
+{
+    hear_on_air(alloc, planned, ear, 4001)
 }
