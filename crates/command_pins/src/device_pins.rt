@@ -50,7 +50,7 @@ pub fn empty_file_at_the_limit_refused(
     read_file(alloc, shelf, name, 0)
 }
 
-/// A file is refused as unread only if a failure was counted.
+/// A file is refused as unread only if a failure was counted, and with each other answer none was.
 /// Promise: every answer is a named one
 pub fn read_fault_without_a_fault(
     alloc: Global,
@@ -58,7 +58,8 @@ pub fn read_fault_without_a_fault(
     name: &str,
 ) -> Result<Vec<u8>, ReadFileError>
     requires { shelf.old.calls.faults ≡ 0 }
-    ensures { result ≡ Err ReadFileError.Failed → 1 ≤ shelf.new.calls.faults }
+    ensures fault { result ≡ Err ReadFileError.Failed → 1 ≤ shelf.new.calls.faults }
+    ensures calm { result ≢ Err ReadFileError.Failed → shelf.new.calls.faults ≡ 0 }
 {
     read_file(alloc, shelf, name, 4)
 }

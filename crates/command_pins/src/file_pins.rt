@@ -15,8 +15,8 @@ use chunk_program::Planned;
 use item_catalog::{Deck, not_both_law};
 use std::alloc::Global;
 
-/// The bytes are those of the file of this name, and a read fault is answered only if a failure was counted (always a read fault). A file that has
-/// exactly as many bytes as the limit isn't too large.
+/// The bytes are those of the file of this name. A read fault is answered only if a failure was counted (always a read fault), and with each other
+/// answer none was. A file that has exactly as many bytes as the limit isn't too large.
 /// Promise: every answer is a named one
 /// Promise: what each status leaves outside
 /// Promise: output is a function of input
@@ -29,6 +29,7 @@ pub fn another_file_is_read(
     requires faults { shelf.old.calls.faults ≡ 0 }
     ensures bytes { IfOk result (λ bytes. bytes.items ≡ 1 ∷ 2 ∷ []) }
     ensures fault { result ≡ Err Status.ReadFault → 1 ≤ shelf.new.calls.faults }
+    ensures calm { result ≢ Err Status.ReadFault → shelf.new.calls.faults ≡ 0 }
     ensures fits { (limit : ℕ) → result ≢ Err (Status.TooLarge limit) }
 {
     read_bytes(alloc, shelf, name, 2)
