@@ -1,5 +1,5 @@
 -- What the headline says of calls over a shelf in memory.
-use Rattle.std.proofs.Common.{◌≡◌, ℕ, List, [], ◌∷◌, ◌++◌, Option, Some, None, All, map, take, refl, ap, sym, ◌∙◌, subst}
+use Rattle.std.proofs.Common.{◌≡◌, ◌<◌, ℕ, List, [], ◌∷◌, ◌++◌, Option, Some, None, All, get_or, length, map, take, refl, ap, sym, ◌∙◌, subst}
 use Rattle.std.specs.Prelude.{codes}
 use Rattle.csv.specs.Writing.{escaped, fields_text, is_blank}
 use Rattle.air_base.specs.Numbers.{number_text}
@@ -21,14 +21,22 @@ use Rattle.air_model.specs.Outputs.{run_tape, tune_output}
 use Rattle.air_model.specs.Programs.{chunk, chunk_len, least_common_multiple, minor_cycle, num_chunks, num_minors, program}
 use Rattle.air_model.specs.Reports.{Report, report_text}
 use Rattle.air_model.specs.Rows.{rows_text}
+use Rattle.air_model.specs.declared.reports.VerdictLine.{VerdictLine}
+use Rattle.air_report.specs.ReadReports.{IsReportOf}
+use Rattle.air_report.specs.declared.reading.ReadReport.{ReadReport}
+use Rattle.air_report.specs.declared.status.Status.{Status}
 use Rattle.air_model.specs.Sessions.{abort, accept_if_whole, copy_of, count_copied, count_dozed, count_foreign, count_late, count_opened, count_refused, decide, drop_copy, end, end_aged, end_query, hear, hear_all, hear_read, hold, is_unusable, judge_read, line_of, next_attempt, next_query, offer, open_bucket, query_of, session, settle, turn, turn_with, wanted, with_line}
 use Rattle.air_model.specs.Tapes.{TapeRead, read_from, tape_read}
 use Rattle.deck_runs.specs.Casts.{all_sent}
 use Rattle.air_sender.specs.AiredBytes.{aired_bytes}
 use Rattle.item_catalog.specs.Grammar.{Spells}
 use Rattle.item_catalog.proofs.GrammarLemmas.{one_deck}
+use Rattle.live_replay.specs.Audits.{findings}
+use Rattle.live_replay.specs.FindingLaws.{GivesVerdict}
+use Rattle.live_replay.specs.FindingTexts.{findings_text}
 use Rattle.live_replay.specs.Findings.{places_read}
-use Rattle.air_cli.specs.Headline.{CastStands, IsHeardReport, ListenStands, RunStands, TuneStands}
+use Rattle.live_replay.specs.declared.findings.Finding.{Finding}
+use Rattle.air_cli.specs.Headline.{AuditStands, CastStands, IsHeardReport, ListenStands, RunStands, TuneStands}
 use Rattle.air_cli.specs.Hearings.{heard_bytes}
 use Rattle.command_pins.specs.SmallDecks.{short_deck}
 
@@ -106,3 +114,15 @@ listen_left old new ear ear_now empty small waiting h =
     h.on_port ∙ ap (λ (d : Deck). map heard_bytes (take d.settings.hears ear.waiting)) same ∙ ap (λ xs. map heard_bytes (take 1000000 xs)) waiting in
     printed_alone old.printed.bytes (report_text h.report) (told_by new).printed empty h.printed
     ∙ ap Some (heard_text h.d h.datagrams ((1 ∷ []) ∷ (2 ∷ []) ∷ []) h.report h.heard same heard ∙ heard_computed.noise)
+
+pub audit_left : (old new : MemShelf) (s : Status) → (told_by old).printed ≡ Some [] → AuditStands (codes "d") (codes "r") (shelved_of old) (shelved_of new) s
+    → (d : Deck) × (read : ReadReport) × (found : List Finding) × IsReportOf d (file_bytes (file_named (codes "r") old.files.items)) read × ((told_by new).printed ≡ Some (findings_text found))
+    × ((k : ℕ) (f : Finding) (line : VerdictLine) → k < length read.report.verdicts → (get_or found k f).differs ≡ None → GivesVerdict d read.report.history (get_or read.report.verdicts k line))
+audit_left old new s empty h = (
+  h.d,
+  h.read,
+  findings h.d h.read,
+  h.is,
+  printed_alone old.printed.bytes (findings_text (findings h.d h.read)) (told_by new).printed empty h.printed,
+  λ k f line below none. (h.each.verdicts k f 0 line below).1.0 none,
+)

@@ -1,19 +1,25 @@
 //! These pins say what holds if a call of `air_main` succeeded, over devices in memory, by its clause `headline` alone. For `run` and `cast` they fix
-//! the history and what was left of it; for `tune` and `listen`, byte by byte, what is printed for a small deck.
+//! the history and what was left of it; for `tune` and `listen`, byte by byte, what is printed for a small deck; for `audit`, what a finding says.
 #![tactic(auto)]
 
-ghost use Rattle.std.specs.Prelude.{◌≡◌, [], ◌∷◌, All, None, Some, codes, map, string_bytes};
+ghost use Rattle.std.specs.Prelude.{◌≡◌, ◌<◌, ℕ, List, [], ◌∷◌, All, None, Some, codes, get_or, length, map, string_bytes};
 ghost use Rattle.air_history.specs.Consistency.{IsConsistent};
 ghost use Rattle.air_model.specs.Decks.{Deck, IsWhole};
 ghost use Rattle.air_model.specs.Outputs.{run_tape};
 ghost use Rattle.air_model.specs.Reports.{Report, report_text};
+ghost use Rattle.air_model.specs.declared.reports.VerdictLine.{VerdictLine};
 ghost use Rattle.air_devices.specs.Masts.{nothing_sent};
 ghost use Rattle.air_devices.specs.Memory.{file_bytes, file_named, told_by};
 ghost use Rattle.air_devices.specs.MemoryMasts.{told_by_mast as sent_by};
+ghost use Rattle.air_report.specs.ReadReports.{IsReportOf};
+ghost use Rattle.air_report.specs.declared.reading.ReadReport.{ReadReport};
 ghost use Rattle.deck_runs.specs.Casts.{all_sent};
 ghost use Rattle.air_sender.specs.AiredBytes.{aired_bytes};
 ghost use Rattle.item_catalog.specs.Grammar.{Spells};
+ghost use Rattle.live_replay.specs.FindingLaws.{GivesVerdict};
+ghost use Rattle.live_replay.specs.FindingTexts.{findings_text};
 ghost use Rattle.live_replay.specs.Findings.{places_read};
+ghost use Rattle.live_replay.specs.declared.findings.Finding.{Finding};
 ghost use Rattle.command_pins.specs.SmallDecks.{short_deck};
 
 use air_cli::air_main;
@@ -116,6 +122,31 @@ pub fn noise_taken_for_buckets<R: Threads + Wait + Sync, G: Gate + Sync>(
     requires printed { (told_by shelf.old).printed ≡ Some [] }
     requires deck { Spells (file_bytes (file_named (codes "d") shelf.old.files.items)) short_deck }
     ensures { result ≡ Status.Ok → (told_by shelf.new).printed ≡ Some (codes "unfinished,0,0,1,\ncounts,0,0,0,0,2,0,0\n") }
+{
+    air_main(rt, alloc, words, shelf, mast, ear, gate)
+}
+
+/// `audit d r` that ends with status 9 has printed findings of the report that the file spells, those of its verdicts first, in order. One of them says
+/// that its verdict agrees only if the replay over the report's own history gives that verdict.
+/// Promise: the headline
+/// Promise: the command prints the audit
+pub fn false_verdict_told_as_agreeing<R: Threads + Wait + Sync, G: Gate + Sync>(
+    rt: &R,
+    alloc: Global,
+    words: &[String],
+    shelf: &mut MemShelf,
+    mast: &mut MemMast,
+    ear: &mut MemEar,
+    gate: &G,
+) -> Status
+    requires words { map (λ w. string_bytes w) words.now ≡ codes "audit" ∷ codes "d" ∷ codes "r" ∷ [] }
+    requires unaimed { mast.old.port ≡ None }
+    requires unsent { sent_by mast.old ≡ nothing_sent }
+    requires untuned { ear.old.port ≡ None }
+    requires printed { (told_by shelf.old).printed ≡ Some [] }
+    ensures { result ≡ Status.Differs → (d : Deck) × (read : ReadReport) × (found : List Finding) × IsReportOf d (file_bytes (file_named (codes "r") shelf.old.files.items)) read
+        × ((told_by shelf.new).printed ≡ Some (findings_text found))
+        × ((k : ℕ) (f : Finding) (line : VerdictLine) → k < length read.report.verdicts → (get_or found k f).differs ≡ None → GivesVerdict d read.report.history (get_or read.report.verdicts k line)) }
 {
     air_main(rt, alloc, words, shelf, mast, ear, gate)
 }
