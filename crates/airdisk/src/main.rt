@@ -15,6 +15,7 @@ mod settings;
 use crate::ears::ToldEar;
 use crate::gates::gate_of;
 use crate::notes::{explain, explain_no_memory, say, word};
+use crate::plain_files::PlainFiles;
 use crate::settings::{AirSettings, SettingError, air_settings};
 use air_base::NoMemory;
 use air_cli::words::{Command, HELP, command_of};
@@ -59,7 +60,8 @@ fn main(rt: HostRuntime) -> ExitCode {
     let mut ear = ToldEar::new(ear, telling, rt.stderr().is_terminal());
     let status = air_main(&rt, alloc, &words, &mut shelf, &mut mast, &mut ear, &gate);
     let on_air = mast.last_failure().or(ear.ear().last_failure());
-    explain(&rt, alloc, &words, &mut shelf, on_air, status);
+    let mut files = PlainFiles::new(&rt, shelf);
+    explain(&rt, alloc, &words, &mut files, on_air, status);
     ExitCode::from(status.code())
 }
 

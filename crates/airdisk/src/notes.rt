@@ -2,7 +2,8 @@
 //! also the usage.
 //!
 //! A note is made after the command has answered, from the same words and files. It changes neither the status nor what was printed. Only a plain
-//! file is read again. If a note can't be made, there is none.
+//! file is read again, by `ReadsAgain`: no note has the runtime's files or the shelf, so none can write an output. If a note can't be made, there is
+//! none.
 
 mod audits;
 mod plans;
@@ -13,18 +14,17 @@ use crate::notes::audits::audit_note;
 use crate::notes::plans::plan_note;
 use crate::notes::silences::deck_silence_note;
 use crate::notes::systems::{air_failure_note, failure_note};
-use crate::plain_files::{plain_size, read_again, tape_again};
+use crate::plain_files::ReadsAgain;
 use air_base::NoMemory;
 use air_base::limits::{MOST_DECK_BYTES, MOST_SLOTS, MOST_TAPE_BYTES};
 use air_cli::words::HELP;
-use air_devices::{FileShelf, NetFailure};
+use air_devices::NetFailure;
 use air_report::Status;
 use air_report::reading::limits::MOST_REPORT_BYTES;
 use disk_split::MOST_SPLIT;
 use fault_notes::{ShownText, deck_note, words_note};
 use item_catalog::DeckFault;
 use std::alloc::Global;
-use std::rt::Files;
 
 /// The word at a place; empty if there is none.
 pub fn word(words: &[String], place: usize) -> &str {
@@ -44,14 +44,13 @@ fn tape_word(words: &[String]) -> &str {
 }
 
 /// What is wrong with a deck.
-fn fault_note<R: Files + Print + Drop>(
-    rt: &R,
+fn fault_note<F: ReadsAgain>(
     alloc: Global,
-    shelf: &mut FileShelf<R>,
+    files: &mut F,
     name: &str,
     fault: DeckFault,
 ) -> Result<Option<String>, NoMemory> {
-    match read_again(rt, alloc, shelf, name, MOST_DECK_BYTES) {
+    match files.bytes(alloc, name, MOST_DECK_BYTES) {
         Some(bytes) => Ok(Some(deck_note(alloc, name, &bytes, fault)?)),
         None => {
             let name = ShownText::whole(name);
@@ -61,14 +60,13 @@ fn fault_note<R: Files + Print + Drop>(
 }
 
 /// Where a tape is cut.
-fn cut_note<R: Files + Print + Drop>(
-    rt: &R,
+fn cut_note<F: ReadsAgain>(
     alloc: Global,
-    shelf: &mut FileShelf<R>,
+    files: &mut F,
     name: &str,
     at: u64,
 ) -> Result<Option<String>, NoMemory> {
-    match tape_again(rt, alloc, shelf, name) {
+    match files.tape(alloc, name) {
         Some(tape) => Ok(Some(tape.note(alloc, name, at)?)),
         None => {
             let name = ShownText::whole(name);
@@ -78,10 +76,10 @@ fn cut_note<R: Files + Print + Drop>(
 }
 
 /// How much larger a file is than allowed.
-fn size_note<R: Files>(
-    rt: &R,
+fn size_note<F: ReadsAgain>(
     alloc: Global,
     words: &[String],
+    files: &F,
     limit: u64,
 ) -> Result<Option<String>, NoMemory> {
     let (name, what) = if limit == MOST_DECK_BYTES as u64 {
@@ -91,7 +89,7 @@ fn size_note<R: Files>(
     } else {
         (tape_word(words), "tape")
     };
-    let size = plain_size(rt, name);
+    let size = files.size(name);
     let name = ShownText::whole(name);
     match size {
         Some(size) => Ok(Some(format!(in alloc;
@@ -131,30 +129,29 @@ fn split_note(alloc: Global, words: &[String], status: Status) -> Result<Option<
 }
 
 /// The note on a status, or `None` if there is none.
-fn text_of<R: Files + Print + Drop>(
-    rt: &R,
+fn text_of<F: ReadsAgain>(
     alloc: Global,
     words: &[String],
-    shelf: &mut FileShelf<R>,
+    files: &mut F,
     air: Option<&NetFailure>,
     status: Status,
 ) -> Result<Option<String>, NoMemory> {
     match status {
-        Status::Ok => deck_silence_note(rt, alloc, words, shelf),
+        Status::Ok => deck_silence_note(alloc, words, files),
         Status::Words => Ok(Some(words_note(alloc, HELP, words)?)),
         Status::TooMuch { .. } | Status::PlanTooLong { .. } if word(words, 0) == "split" => {
             split_note(alloc, words, status)
         }
         Status::Deck { row, kind } => {
-            fault_note(rt, alloc, shelf, word(words, 1), DeckFault { row, kind })
+            fault_note(alloc, files, word(words, 1), DeckFault { row, kind })
         }
-        Status::ReadFault | Status::WriteFault => failure_note(alloc, words, shelf, status),
+        Status::ReadFault | Status::WriteFault => failure_note(alloc, words, files, status),
         Status::AirFault { at } => air_failure_note(alloc, air, at),
-        Status::TapeCut { at } => cut_note(rt, alloc, shelf, tape_word(words), at),
-        Status::TooLarge { limit } => size_note(rt, alloc, words, limit),
+        Status::TapeCut { at } => cut_note(alloc, files, tape_word(words), at),
+        Status::TooLarge { limit } => size_note(alloc, words, files, limit),
         Status::TooLong { bytes } => length_note(alloc, words, bytes),
-        Status::PlanTooLong { slots } => plan_note(rt, alloc, words, shelf, slots),
-        _ => audit_note(rt, alloc, words, shelf, status),
+        Status::PlanTooLong { slots } => plan_note(alloc, words, files, slots),
+        _ => audit_note(alloc, words, files, status),
     }
 }
 
@@ -170,11 +167,11 @@ pub fn explain_no_memory<R: Eprint>(rt: &R) {
 
 /// Writes a note on a command to standard error, if there is one; a failed write is ignored. `air` is what the system said of a mast or an
 /// ear.
-pub fn explain<R: Files + Print + Eprint + Drop>(
+pub fn explain<R: Eprint, F: ReadsAgain>(
     rt: &R,
     alloc: Global,
     words: &[String],
-    shelf: &mut FileShelf<R>,
+    files: &mut F,
     air: Option<&NetFailure>,
     status: Status,
 ) {
@@ -182,7 +179,7 @@ pub fn explain<R: Files + Print + Eprint + Drop>(
         explain_no_memory(rt);
         return;
     }
-    if let Ok(Some(note)) = text_of(rt, alloc, words, shelf, air, status) {
+    if let Ok(Some(note)) = text_of(alloc, words, files, air, status) {
         say(rt, note.as_str());
     }
 }

@@ -1,29 +1,26 @@
 //! Notes on an audit that was refused, or that found lines which differ.
 
 use crate::notes::word;
-use crate::plain_files::{deck_again, read_again};
+use crate::plain_files::ReadsAgain;
 use air_base::NoMemory;
-use air_devices::FileShelf;
 use air_report::Status;
 use air_report::reading::limits::MOST_REPORT_BYTES;
 use fault_notes::{ShownText, report_note};
 use live_replay::audit_report;
 use live_replay::limits::MOST_REPLAYED;
 use std::alloc::Global;
-use std::rt::Files;
 
 /// What is wrong with a report, compared with its deck if both can be read again.
-fn refused_report_note<R: Files + Print + Drop>(
-    rt: &R,
+fn refused_report_note<F: ReadsAgain>(
     alloc: Global,
     words: &[String],
-    shelf: &mut FileShelf<R>,
+    files: &mut F,
     row: u32,
     kind: u8,
 ) -> Result<Option<String>, NoMemory> {
-    let deck = deck_again(rt, alloc, shelf, word(words, 1));
+    let deck = files.deck(alloc, word(words, 1));
     let name = word(words, 2);
-    let note = match read_again(rt, alloc, shelf, name, MOST_REPORT_BYTES) {
+    let note = match files.bytes(alloc, name, MOST_REPORT_BYTES) {
         Some(bytes) => report_note(alloc, name, deck.as_ref(), &bytes, row, kind)?,
         None => report_note(alloc, name, deck.as_ref(), &[], row, kind)?,
     };
@@ -31,15 +28,14 @@ fn refused_report_note<R: Files + Print + Drop>(
 }
 
 /// The number of lines of a report that differ from their replays, or `None` if it can't be read again.
-fn count_differing<R: Files + Print + Drop>(
-    rt: &R,
+fn count_differing<F: ReadsAgain>(
     alloc: Global,
-    shelf: &mut FileShelf<R>,
+    files: &mut F,
     deck: &str,
     report: &str,
 ) -> Option<u64> {
-    let deck = deck_again(rt, alloc, shelf, deck)?;
-    let bytes = read_again(rt, alloc, shelf, report, MOST_REPORT_BYTES)?;
+    let deck = files.deck(alloc, deck)?;
+    let bytes = files.bytes(alloc, report, MOST_REPORT_BYTES)?;
     if MOST_REPORT_BYTES < bytes.len() {
         return None;
     }
@@ -54,14 +50,13 @@ fn count_differing<R: Files + Print + Drop>(
 }
 
 /// A note that lines of a report differ from their replays.
-fn difference_note<R: Files + Print + Drop>(
-    rt: &R,
+fn difference_note<F: ReadsAgain>(
     alloc: Global,
-    shelf: &mut FileShelf<R>,
+    files: &mut F,
     words: &[String],
 ) -> Result<Option<String>, NoMemory> {
     let report = word(words, 2);
-    let count = count_differing(rt, alloc, shelf, word(words, 1), report);
+    let count = count_differing(alloc, files, word(words, 1), report);
     let name = ShownText::whole(report);
     let said = match count {
         Some(1) => format!(in alloc; "{name}: 1 line differs from its replay")?,
@@ -72,16 +67,15 @@ fn difference_note<R: Files + Print + Drop>(
 }
 
 /// A note on an audit that was refused, or that found lines which differ, or `None` for another status.
-pub fn audit_note<R: Files + Print + Drop>(
-    rt: &R,
+pub fn audit_note<F: ReadsAgain>(
     alloc: Global,
     words: &[String],
-    shelf: &mut FileShelf<R>,
+    files: &mut F,
     status: Status,
 ) -> Result<Option<String>, NoMemory> {
     match status {
-        Status::Report { row, kind } => { refused_report_note(rt, alloc, words, shelf, row, kind) }
-        Status::Differs => difference_note(rt, alloc, shelf, words),
+        Status::Report { row, kind } => { refused_report_note(alloc, words, files, row, kind) }
+        Status::Differs => difference_note(alloc, files, words),
         Status::TooMuch { product } => {
             let report = ShownText::whole(word(words, 2));
             Ok(Some(format!(in alloc;

@@ -1,15 +1,13 @@
 //! Notes on decks of which a program is too long.
 
 use crate::notes::word;
-use crate::plain_files::deck_again;
+use crate::plain_files::ReadsAgain;
 use air_base::NoMemory;
 use air_base::limits::MOST_SLOTS;
-use air_devices::FileShelf;
 use chunk_program::{PlanFault, Program, cut};
 use fault_notes::ShownText;
 use item_catalog::Deck;
 use std::alloc::Global;
-use std::rt::Files;
 
 /// The first edition of a deck whose program is too long, or `None` if that isn't found.
 fn long_edition(alloc: Global, deck: &Deck) -> Option<u32> {
@@ -27,15 +25,14 @@ fn long_edition(alloc: Global, deck: &Deck) -> Option<u32> {
 }
 
 /// A note on a deck of which a program would have `slots` slots. If the deck has replans, it also says which program.
-pub fn plan_note<R: Files + Print + Drop>(
-    rt: &R,
+pub fn plan_note<F: ReadsAgain>(
     alloc: Global,
     words: &[String],
-    shelf: &mut FileShelf<R>,
+    files: &mut F,
     slots: u64,
 ) -> Result<Option<String>, NoMemory> {
     let name = word(words, 1);
-    let (edition, changes) = match deck_again(rt, alloc, shelf, name) {
+    let (edition, changes) = match files.deck(alloc, name) {
         Some(deck) => (long_edition(alloc, &deck), 0 < deck.replans()),
         None => (None, false),
     };

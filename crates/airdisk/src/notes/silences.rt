@@ -1,12 +1,10 @@
 //! Notes on a deck without a fault that gives no verdict.
 
 use crate::notes::word;
-use crate::plain_files::{deck_again, plain_size, read_again};
+use crate::plain_files::ReadsAgain;
 use air_base::NoMemory;
-use air_devices::FileShelf;
 use fault_notes::silence_note;
 use std::alloc::Global;
-use std::rt::Files;
 
 /// The greatest size of a deck that is read again after status 0, in bytes, so that this takes little time.
 const QUICK_BYTES: usize = 1_000_000;
@@ -30,11 +28,10 @@ fn asks_plainly(text: &[u8], by_script: bool) -> bool {
 
 /// A note that the deck of a command with readers gives no verdict, or `None`; also `None` if the deck is large. The deck is read as a deck only
 /// if its text doesn't show that it gives verdicts.
-pub fn deck_silence_note<R: Files + Print + Drop>(
-    rt: &R,
+pub fn deck_silence_note<F: ReadsAgain>(
     alloc: Global,
     words: &[String],
-    shelf: &mut FileShelf<R>,
+    files: &mut F,
 ) -> Result<Option<String>, NoMemory> {
     let command = word(words, 0);
     let by_script = command == "script";
@@ -42,15 +39,15 @@ pub fn deck_silence_note<R: Files + Print + Drop>(
         return Ok(None);
     }
     let name = word(words, 1);
-    match plain_size(rt, name) {
+    match files.size(name) {
         Some(size) if size <= QUICK_BYTES as u64 => {}
         _ => return Ok(None),
     }
-    match read_again(rt, alloc, shelf, name, QUICK_BYTES) {
+    match files.bytes(alloc, name, QUICK_BYTES) {
         Some(text) if !asks_plainly(&text, by_script) => {}
         _ => return Ok(None),
     }
-    match deck_again(rt, alloc, shelf, name) {
+    match files.deck(alloc, name) {
         Some(deck) => silence_note(alloc, name, &deck, by_script),
         None => Ok(None),
     }

@@ -1,13 +1,13 @@
 //! What the system said of a call that failed.
 
 use crate::notes::word;
+use crate::plain_files::ReadsAgain;
 use air_base::NoMemory;
-use air_devices::{FileCall, FileFailure, FileShelf, NetFailure};
+use air_devices::{FileCall, FileFailure, NetFailure};
 use air_report::Status;
 use fault_notes::{ShownText, air_note};
 use std::alloc::Global;
 use std::io;
-use std::rt::Files;
 
 /// Whether a print failed because the pipe was closed, as with `| head`.
 fn is_closed_pipe(failure: &FileFailure) -> bool {
@@ -42,13 +42,13 @@ fn unread_note(alloc: Global) -> Result<String, NoMemory> {
 }
 
 /// What the system said of the last call that failed, or `None`; also `None` if all that failed was a print to a closed pipe.
-pub fn failure_note<R: Files + Print + Drop>(
+pub fn failure_note<F: ReadsAgain>(
     alloc: Global,
     words: &[String],
-    shelf: &FileShelf<R>,
+    files: &F,
     status: Status,
 ) -> Result<Option<String>, NoMemory> {
-    match shelf.last_failure() {
+    match files.last_failure() {
         Some(failure) if is_of_the_line(failure, status) => Ok(Some(unread_note(alloc)?)),
         Some(failure) if !is_closed_pipe(failure) => {
             let said = format!(in alloc; "{failure}")?;
