@@ -1,9 +1,9 @@
 //! The program: words in, a status out.
 //!
-//! It gives its words and a shelf over files and standard output to the top call, with a mast and an ear over UDP on this machine. Environment
-//! variables set the rate of the mast and the silence of the ear (`settings`). With a rate, updates wait at a gate (`gates`); else nothing waits. On
-//! standard error the ear reports on a terminal (`ears`), and a refusal has a note (`notes`), made from `plain_files` that are read again. The exit
-//! status is the status's number. Help and version are answered here.
+//! It gives its words and a shelf over files and standard output to a top call: to `air_main` for a command that waits, with a mast and an ear over
+//! UDP on this machine, else to `air_quiet`, which ends. Environment variables set the rate of the mast and the silence of the ear (`settings`).
+//! With a rate, updates wait at a gate (`gates`); else nothing waits. On standard error the ear reports on a terminal (`ears`), and a refusal has a
+//! note (`notes`), made from `plain_files` that are read again. The exit status is the status's number. Help and version are answered here.
 #![tactic(auto)]
 
 mod ears;
@@ -18,8 +18,8 @@ use crate::notes::{explain, explain_no_memory, say, word};
 use crate::plain_files::PlainFiles;
 use crate::settings::{AirSettings, SettingError, air_settings};
 use air_base::NoMemory;
-use air_cli::words::{Command, HELP, command_of};
-use air_cli::{air_main, refuse};
+use air_cli::words::{Command, HELP, command_of, waits};
+use air_cli::{air_main, air_quiet, refuse};
 use air_devices::{FileShelf, UdpEar, UdpMast};
 use air_report::Status;
 use fault_notes::{command_help, no_text_note};
@@ -58,7 +58,11 @@ fn main(rt: HostRuntime) -> ExitCode {
     let mut mast = UdpMast::with_rate(sending, settings.rate);
     let ear = UdpEar::with_silence(hearing, settings.silence);
     let mut ear = ToldEar::new(ear, telling, rt.stderr().is_terminal());
-    let status = air_main(&rt, alloc, &words, &mut shelf, &mut mast, &mut ear, &gate);
+    let status = if waits(&words) {
+        air_main(&rt, alloc, &words, &mut shelf, &mut mast, &mut ear, &gate)
+    } else {
+        air_quiet(&rt, alloc, &words, &mut shelf)
+    };
     let on_air = mast.last_failure().or(ear.ear().last_failure());
     let mut files = PlainFiles::new(&rt, shelf);
     explain(&rt, alloc, &words, &mut files, on_air, status);
