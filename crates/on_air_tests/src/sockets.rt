@@ -1,6 +1,7 @@
-//! The commands `cast` and `listen` at once, over real sockets of this machine: both end.
+//! The commands `cast` and `listen` at once, over real sockets of this machine: both end, and the listener's reader has heard what was cast.
 //!
-//! A datagram may be lost, so nothing is said of what is heard. The listener's deck lets it hear one datagram, and its ear sends itself one.
+//! The cast begins when the listener is tuned in. It sends two buckets and the end, fewer bytes than a socket keeps until they are heard. So here no
+//! datagram is lost.
 
 ghost use Rattle.std.specs.Prelude.{◌≡◌, ◌<◌, None};
 ghost use Rattle.std.specs.Thread.{IsSync};
@@ -15,12 +16,19 @@ use std::alloc::Global;
 use std::io;
 use std::net::{Net, SocketAddr, UdpSocket};
 use std::sync::Wait;
+use std::sync::atomic::{AtomicU64, Ordering};
 use std::test::Fail;
-use std::thread::{Threads, join_mut};
+use std::thread::{self, Threads, join_mut};
 
-/// Two items on one flat disk, one reader with one query, one cycle; the reader hears one datagram.
+/// Two items on one flat disk, one reader with one query, one cycle.
 const DECK: &[u8] = b"item,0,10,1\nitem,1,20,1\ndisk,2,1\nreader,0,0,1\nquery,0,0 1\n\
-    set,cycles,1\nset,hears,1\n";
+    set,cycles,1\n";
+
+/// The listener's report: its reader opened the two buckets of the cycle, and so has read both items, with their values in the deck.
+const REPORT: &[u8] = b"accept,0,0,1,0@1=10 1@1=20\ncounts,0,2,0,0,0,0,0\n";
+
+/// The greatest number of times that the cast looks whether the listener is tuned in.
+const TURNS: u64 = 1_000_000_000;
 
 /// A shelf with this deck.
 pub fn shelf_of(alloc: Global, deck: &[u8]) -> Result<MemShelf, NoMemory> {
@@ -52,19 +60,19 @@ fn free_port<R: Net>(net: &R) -> io::Result<u16> {
     Ok(socket.local_addr()?.port())
 }
 
-/// An ear that sends itself one byte as soon as it is tuned in, and the socket that it sends from.
+/// An ear that marks that it is tuned in.
 #[derive(Drop)]
-struct WokenEar<E: Ear + Drop> {
+struct MarkingEar<'a, E: Ear + Drop> {
     ear: E,
-    socket: UdpSocket,
+    tuned: &'a AtomicU64,
 }
 
-impl<E: Ear + Drop> Ear for WokenEar<E> {
-    ghost state = { λ woken. E.state woken.ear };
+impl<E: Ear + Drop> Ear for MarkingEar<'_, E> {
+    ghost state = { λ marking. E.state marking.ear };
 
     fn tune_in(&mut self, port: u16) -> Result<(), Failed> {
         self.ear.tune_in(port)?;
-        let _ = self.socket.send_to(b"a", loopback(port));
+        self.tuned.fetch_add(1, Ordering::SeqCst);
         Ok(())
     }
 
@@ -73,12 +81,23 @@ impl<E: Ear + Drop> Ear for WokenEar<E> {
     }
 }
 
-/// How a cast to a port ends.
+/// Waits until this is marked.
+fn wait_for(tuned: &AtomicU64) {
+    for _ in 0..TURNS {
+        if tuned.load(Ordering::SeqCst) > 0 {
+            return;
+        }
+        thread::yield_now();
+    }
+}
+
+/// How a cast to a port ends, which begins when the listener is tuned in.
 fn cast_end<R: Threads + Wait + Sync, M: Mast + Send>(
     rt: &R,
     alloc: Global,
     port: &str,
     mast: &mut M,
+    tuned: &AtomicU64,
 ) -> Result<Status, NoMemory>
     requires unaimed { (M.state mast.old).port ≡ None }
     requires unsent { WhereTold (M.state mast.old).told (λ s. s ≡ nothing_sent) }
@@ -86,55 +105,63 @@ fn cast_end<R: Threads + Wait + Sync, M: Mast + Send>(
     let mut shelf = shelf_of(alloc, DECK)?;
     let words = words_of(alloc, "cast", port)?;
     let mut ear = MemEar::new(Vec::new(alloc), Vec::new(alloc));
+    wait_for(tuned);
     Ok(air_main(rt, alloc, &words, &mut shelf, mast, &mut ear, &OpenGate))
 }
 
-/// How listening on a port ends.
+/// How listening on a port ends, and what is printed.
 fn listen_end<R: Threads + Wait + Sync + Net>(
     rt: &R,
     alloc: Global,
     port: &str,
-) -> Result<Status, Fail> {
+    tuned: &AtomicU64,
+) -> Result<(Status, Vec<u8>), Fail> {
     let mut shelf = shelf_of(alloc, DECK)?;
     let words = words_of(alloc, "listen", port)?;
     let mut mast = MemMast::new(alloc, 0, Vec::new(alloc))?;
-    let socket = UdpSocket::bind(rt, loopback(0))?;
-    let mut ear = WokenEar {
+    let mut ear = MarkingEar {
         ear: UdpEar::new(rt),
-        socket,
+        tuned,
     };
-    Ok(air_main(
+    let status = air_main(
         rt, alloc, &words, &mut shelf, &mut mast, &mut ear, &OpenGate,
-    ))
+    );
+    Ok((status, Vec::from_slice(alloc, shelf.printed())?))
 }
 
-/// How a cast to a port and a listener on it end, on two threads.
+/// How a cast to a port and a listener on it end, on two threads, and what the listener prints.
 fn both_ends<R: Threads + Wait + Sync + Net, M: Mast + Send>(
     rt: &R,
     alloc: Global,
     port: &str,
     mast: &mut M,
-) -> Result<(Status, Status), Fail>
+) -> Result<(Status, Status, Vec<u8>), Fail>
     requires unaimed { (M.state mast.old).port ≡ None }
     requires unsent { WhereTold (M.state mast.old).told (λ s. s ≡ nothing_sent) }
 {
+    let tuned = AtomicU64::new(0);
     let (cast, heard) = join_mut(
         rt,
         &mut ||
             requires { IsSync R.row × ((M.state mast.now).port ≡ None) × WhereTold (M.state mast.now).told (λ s. s ≡ nothing_sent) }
-        { cast_end(rt, alloc, port, mast) },
-        &mut || listen_end(rt, alloc, port),
+        { cast_end(rt, alloc, port, mast, &tuned) },
+        &mut || {
+            let heard = listen_end(rt, alloc, port, &tuned);
+            tuned.fetch_add(1, Ordering::SeqCst);
+            heard
+        },
     );
-    let heard = heard?;
-    Ok((cast?, heard))
+    let (listen, printed) = heard?;
+    Ok((cast?, listen, printed))
 }
 
 #[test]
-fn a_cast_and_who_listens_to_it_both_end(rt: HostRuntime) -> Result<(), Fail> {
+fn who_listens_to_a_cast_hears_all_of_it(rt: HostRuntime) -> Result<(), Fail> {
     let alloc = rt.alloc();
     let port = format!(in alloc; "{}", free_port(&rt)?)?;
     let mut mast = UdpMast::new(rt.clone()?);
-    let ends = both_ends(&rt, alloc, port.as_str(), &mut mast)?;
-    assert_eq!(rt; ends, (Status::Ok, Status::Ok));
+    let (cast, listen, printed) = both_ends(&rt, alloc, port.as_str(), &mut mast)?;
+    assert_eq!(rt; (cast, listen), (Status::Ok, Status::Ok));
+    assert_eq!(rt; printed.as_slice(), REPORT);
     Ok(())
 }
