@@ -1,7 +1,7 @@
 //! The jobs of a run, and who does them: an updater commits its updates, the conductor airs the cycles, a monitor looks.
 //!
-//! The jobs are `updater_job`, `conductor_job`, or `group_conductor_job` for decks with groups, and `monitor_job`. The two of the conductor are cases of
-//! `conduct_all`, which a run calls. `crews` has what each of them works on, and runs those of a kind side by side.
+//! The jobs are `updater_job`, `conductor_job`, or `group_conductor_job` for decks with groups, and `monitor_job`; a run calls them. The two of the
+//! conductor are cases of `conduct_all`. `crews` has what each of them works on, and runs those of a kind side by side.
 
 pub(crate) mod airings;
 pub(crate) mod conductors;

@@ -42,7 +42,7 @@ impl<C: PolicyCheck> Model for CheckedReads<C> {
 }
 
 impl<C: PolicyCheck> CheckedReads<C> {
-    /// Nothing held, with room for sixteen reads over `n` items.
+    /// Makes a list that holds nothing, with room for sixteen reads over `n` items.
     pub fn new(alloc: Global, n: u16) -> Result<CheckedReads<C>, NoMemory>
         ensures { IfOk result (λ h. h ≡ record { n = n; reads = [] }) }
     {
@@ -52,7 +52,7 @@ impl<C: PolicyCheck> CheckedReads<C> {
         })
     }
 
-    /// The number of held reads, which is at most the room.
+    /// Returns the number of held reads, which is at most the room.
     pub fn len(&self) -> usize
         ensures number { result ≡ length self.now.reads }
         ensures within { result ≤ ROOM }
@@ -60,7 +60,7 @@ impl<C: PolicyCheck> CheckedReads<C> {
         self.held.len()
     }
 
-    /// The cycle of the last held read.
+    /// Returns the cycle of the last held read.
     pub fn last(&self) -> Option<u32>
         ensures none { IsNone result ↔ (self.now.reads ≡ []) }
         ensures cycle { IfSome result (λ c. c ≡ last_cycle (map read_at self.now.reads)) }
@@ -68,21 +68,21 @@ impl<C: PolicyCheck> CheckedReads<C> {
         self.held.last()
     }
 
-    /// Whether the held reads and a read of this cycle, of any item, are too far apart to be judged by ages.
+    /// Tells whether the held reads and a read of this cycle, of any item, are too far apart to be judged by ages.
     pub fn spans(&self, cycle: u32) -> bool
         ensures { (item : ℕ) → result ≡ spans_too_far (map read_at self.now.reads ++ record { item = item; cycle = cycle } ∷ []) }
     {
         self.held.spans(cycle)
     }
 
-    /// The cycle in which each of the `n` items is held; the greatest `u32` for an item that isn't held.
+    /// Returns the cycle in which each of the `n` items is held; the greatest `u32` for an item that isn't held.
     pub fn cycles(&self) -> &[u32]
         ensures { result.now ≡ cycles_of self.now }
     {
         self.held.cycles()
     }
 
-    /// The held read with the least item number that clashes with the new one.
+    /// Returns the held read with the least item number that clashes with the new one.
     pub fn clashes(&self, item: u16, cycle: u32, entries: &[u32]) -> Option<Clash>
         requires new { IsNew self.now (heard_read item cycle entries.now) }
         requires order { MayFollow C.policy self.now (heard_read item cycle entries.now) }

@@ -15,7 +15,7 @@ use air_base::Clash;
 pub trait PolicyCheck {
     ghost policy: { Policy };
 
-    /// The held read with the least item number that clashes with the new one, by the entries of both.
+    /// Returns the held read with the least item number that clashes with the new one, by the entries of both.
     fn clash(held: &HeldEntries, item: u16, cycle: u32, entries: &[u32]) -> Option<Clash>
         requires { IsNew held.now (heard_read item cycle entries.now) }
         ensures { result ≡ clash_by_entries policy held.now.reads (heard_read item cycle entries.now) };

@@ -12,7 +12,7 @@ use air_lanes::first_not_below;
 /// What the array has for an item that isn't held.
 pub const NOT_HELD: u32 = u32::MAX;
 
-/// The clash with the first item at which the entries aren't below its held cycle; there are `n` items.
+/// Returns the clash with the first item at which the entries aren't below its held cycle; there are `n` items.
 pub fn first_clash(entries: &[u32], cycles: &[u32], n: u16) -> Option<Clash>
     requires entries { length entries.now ≡ n }
     requires cycles { length cycles.now ≡ n }

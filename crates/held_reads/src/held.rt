@@ -45,7 +45,7 @@ impl Model for HeldEntries {
 }
 
 impl HeldEntries {
-    /// Nothing held, with room for sixteen reads over `n` items.
+    /// Makes a list that holds nothing, with room for sixteen reads over `n` items.
     pub fn new(alloc: Global, n: u16) -> Result<HeldEntries, NoMemory>
         ensures { IfOk result (λ h. h ≡ record { n = n; reads = [] }) }
     {
@@ -62,7 +62,7 @@ impl HeldEntries {
         })
     }
 
-    /// The number of held reads, which is at most the room.
+    /// Returns the number of held reads, which is at most the room.
     pub fn len(&self) -> usize
         ensures number { result ≡ length self.now.reads }
         ensures within { result ≤ ROOM }
@@ -70,7 +70,7 @@ impl HeldEntries {
         self.len
     }
 
-    /// The cycle of the last held read.
+    /// Returns the cycle of the last held read.
     pub fn last(&self) -> Option<u32>
         ensures none { IsNone result ↔ (self.now.reads ≡ []) }
         ensures cycle { IfSome result (λ c. c ≡ last_cycle (map read_at self.now.reads)) }
@@ -81,7 +81,7 @@ impl HeldEntries {
         Some(self.places[self.len - 1].cycle)
     }
 
-    /// The cycle of the first held read; 0 if nothing is held.
+    /// Returns the cycle of the first held read; 0 if nothing is held.
     pub fn first(&self) -> u32
         ensures { result ≡ first_heard self.now.reads }
     {
@@ -91,14 +91,14 @@ impl HeldEntries {
         self.places[0].cycle
     }
 
-    /// The newest cycle of the held reads; 0 if nothing is held.
+    /// Returns the newest cycle of the held reads; 0 if nothing is held.
     pub fn newest(&self) -> u32
         ensures { result ≡ newest_heard self.now.reads }
     {
         newest_of(&self.places[..self.len])
     }
 
-    /// Whether the held reads and a read of this cycle, of any item, are too far apart to be judged by ages.
+    /// Tells whether the held reads and a read of this cycle, of any item, are too far apart to be judged by ages.
     #[tactic(auto, unfolding(air_history::specs::Ages::spans_too_far))]
     pub fn spans(&self, cycle: u32) -> bool
         ensures { (item : ℕ) → result ≡ spans_too_far (map read_at self.now.reads ++ record { item = item; cycle = cycle } ∷ []) }
@@ -106,7 +106,7 @@ impl HeldEntries {
         span_with(&self.places[..self.len], cycle) >= AGE_CAP
     }
 
-    /// The cycle in which each of the `n` items is held; the greatest `u32` for an item that isn't held.
+    /// Returns the cycle in which each of the `n` items is held; the greatest `u32` for an item that isn't held.
     pub fn cycles(&self) -> &[u32]
         ensures { result.now ≡ cycles_of self.now }
     {
@@ -120,7 +120,7 @@ impl HeldEntries {
         let _places = &self.places;
     }
 
-    /// The entry of an item that was heard with the first held read of a cycle; 0 if no held read is of that cycle.
+    /// Returns the entry of an item that was heard with the first held read of a cycle; 0 if no held read is of that cycle.
     pub fn first_entry(&self, cycle: u32, item: u16) -> u32
         requires { item < self.now.n }
         ensures { result ≡ entry_in self.now.reads cycle item }
@@ -128,14 +128,14 @@ impl HeldEntries {
         first_entry(&self.places[..self.len], cycle, item)
     }
 
-    /// The held read with the least item number among those of a cycle.
+    /// Returns the held read with the least item number among those of a cycle.
     pub fn least_of_cycle(&self, cycle: u32) -> Option<Clash>
         ensures { result ≡ heard_clash (λ r. r.cycle == cycle) self.now.reads }
     {
         least_of_cycle(&self.places[..self.len], cycle)
     }
 
-    /// The held read with the least item number among those whose entries have the item at the cycle or later.
+    /// Returns the held read with the least item number among those whose entries have the item at the cycle or later.
     pub fn least_having(&self, item: u16, cycle: u32) -> Option<Clash>
         requires { item < self.now.n }
         ensures { result ≡ heard_clash (has_since item cycle) self.now.reads }
@@ -143,7 +143,7 @@ impl HeldEntries {
         least_having(&self.places[..self.len], item, cycle)
     }
 
-    /// The held read with the least item number among those whose cycle the entries reach.
+    /// Returns the held read with the least item number among those whose cycle the entries reach.
     pub fn least_reached(&self, entries: &[u32]) -> Option<Clash>
         requires sized { length entries.now ≡ self.now.n }
         requires below { All (λ entry. entry < NOT_HELD) entries.now }

@@ -21,7 +21,7 @@ pub struct HeldRead {
 }
 
 impl HeldRead {
-    /// A place with room for `n` entries.
+    /// Makes a place with room for `n` entries.
     pub fn blank(alloc: Global, n: u16) -> Result<HeldRead, NoMemory>
         ensures { IfOk result (λ r. length r.entries.items ≡ n) }
     {
@@ -32,7 +32,7 @@ impl HeldRead {
         })
     }
 
-    /// The read without its entries.
+    /// Returns the read without its entries.
     fn clash(&self) -> Clash
         ensures { result ≡ clash_naming (heard_of_held self.now) }
     {
@@ -43,7 +43,7 @@ impl HeldRead {
     }
 }
 
-/// The second clash, or the first if there is one and its item number isn't greater.
+/// Returns the second clash, or the first if there is one and its item number isn't greater.
 pub fn lesser_clash(best: Option<Clash>, clash: Clash) -> Clash
     ensures { result ≡ lesser_of best clash }
 {
@@ -53,7 +53,7 @@ pub fn lesser_clash(best: Option<Clash>, clash: Clash) -> Clash
     }
 }
 
-/// The newest cycle of the reads; 0 if there is none.
+/// Returns the newest cycle of the reads; 0 if there is none.
 pub fn newest_of(reads: &[HeldRead]) -> u32
     ensures { result ≡ newest_heard (map heard_of_held reads.now) }
 {
@@ -64,7 +64,7 @@ pub fn newest_of(reads: &[HeldRead]) -> u32
     newest
 }
 
-/// The span of the reads and one of this cycle, of any item.
+/// Returns the span of the reads and one of this cycle, of any item.
 pub fn span_with(reads: &[HeldRead], cycle: u32) -> u32
     ensures { (item : ℕ) → result ≡ span (map read_at (map heard_of_held reads.now) ++ record { item = item; cycle = cycle } ∷ []) }
 {
@@ -77,7 +77,7 @@ pub fn span_with(reads: &[HeldRead], cycle: u32) -> u32
     newest - oldest
 }
 
-/// The entry of an item that was heard with the first read of the cycle; 0 if no read is of the cycle.
+/// Returns the entry of an item that was heard with the first read of the cycle; 0 if no read is of the cycle.
 pub fn first_entry(reads: &[HeldRead], cycle: u32, item: u16) -> u32
     requires { All (λ r. item < length r.entries.items) reads.now }
     ensures { result ≡ entry_in (map heard_of_held reads.now) cycle item }
@@ -90,7 +90,7 @@ pub fn first_entry(reads: &[HeldRead], cycle: u32, item: u16) -> u32
     0
 }
 
-/// The read with the least item number among those of the cycle.
+/// Returns the read with the least item number among those of the cycle.
 #[tactic(auto, using(crate::proofs::SearchLemmas::search_hit, crate::proofs::SearchLemmas::search_miss), unfolding(air_history::specs::Clashes::least))]
 pub fn least_of_cycle(reads: &[HeldRead], cycle: u32) -> Option<Clash>
     ensures { result ≡ heard_clash (λ r. r.cycle == cycle) (map heard_of_held reads.now) }
@@ -104,7 +104,7 @@ pub fn least_of_cycle(reads: &[HeldRead], cycle: u32) -> Option<Clash>
     best
 }
 
-/// The read with the least item number among those whose entries have the item at the cycle or later.
+/// Returns the read with the least item number among those whose entries have the item at the cycle or later.
 #[tactic(auto, using(crate::proofs::SearchLemmas::search_hit, crate::proofs::SearchLemmas::search_miss), unfolding(air_history::specs::Clashes::least))]
 pub fn least_having(reads: &[HeldRead], item: u16, cycle: u32) -> Option<Clash>
     requires { All (λ r. item < length r.entries.items) reads.now }

@@ -35,7 +35,7 @@ impl Model for Air {
 }
 
 impl Air {
-    /// What the receivers of a deck know. The plans are shared and not copied.
+    /// Gathers what the receivers of a deck know. The plans are shared and not copied.
     pub fn new(planned: &PlannedRef<'_>) -> Result<Air, NoMemory>
         ensures told { IfOk result (λ a. a ≡ air_of planned.now) }
         ensures numbers { IfOk result (λ a. (c : ℕ) → length (pix_at a c) ≡ a.items) }
@@ -52,42 +52,42 @@ impl Air {
         })
     }
 
-    /// The policy.
+    /// Returns the policy.
     pub fn policy(&self) -> Policy
         ensures { result ≡ self.now.scheme.policy }
     {
         self.policy
     }
 
-    /// The version of the deck's buckets.
+    /// Returns the version of the deck's buckets.
     pub fn version(&self) -> u8
         ensures { result ≡ self.now.version }
     {
         self.version
     }
 
-    /// The number of items.
+    /// Returns the number of items.
     pub fn items(&self) -> u16
         ensures { result ≡ self.now.items }
     {
         self.items
     }
 
-    /// The edition of a cycle.
+    /// Returns the edition of a cycle.
     pub fn edition_at(&self, cycle: u32) -> u32
         ensures { result ≡ edition_at self.now cycle }
     {
         self.plans.edition_at(cycle)
     }
 
-    /// The PIX number of each item in a cycle.
+    /// Returns the PIX number of each item in a cycle.
     pub fn pix(&self, cycle: u32) -> &[u64]
         ensures { result.now ≡ pix_at self.now cycle }
     {
         self.plans.pix(self.plans.edition_at(cycle))
     }
 
-    /// Whether the bucket fits the deck, by the program in force in its own cycle.
+    /// Tells whether the bucket fits the deck, by the program in force in its own cycle.
     pub fn fits(&self, bucket: &BucketView<'_>) -> bool
         ensures { result ≡ fits self.now bucket.now }
     {
@@ -104,7 +104,7 @@ impl Air {
     }
 }
 
-/// Whether the slot carries the item.
+/// Tells whether the slot carries the item.
 fn carries(slot: Option<u16>, item: u16) -> bool
     ensures { result ≡ carries item slot }
 {
@@ -114,7 +114,7 @@ fn carries(slot: Option<u16>, item: u16) -> bool
     }
 }
 
-/// Whether the policy airs control columns.
+/// Tells whether the policy airs control columns.
 fn airs_columns(policy: Policy) -> bool
     ensures { result ≡ airs_columns policy }
 {
@@ -124,7 +124,7 @@ fn airs_columns(policy: Policy) -> bool
     }
 }
 
-/// Whether the bucket's kind and item are those that the policy airs in a slot with this item.
+/// Tells whether the bucket's kind and item are those that the policy airs in a slot with this item.
 #[tactic(auto, unfolding(crate::specs::Private::SlotKinds::kind_fits))]
 fn stands_right(policy: Policy, slot: Option<u16>, bucket: &BucketView<'_>) -> bool
     ensures { result ≡ kind_fits policy slot (kind_of bucket.now.body) (item_of bucket.now.body) }

@@ -40,7 +40,7 @@ impl Model for Attempt {
 }
 
 impl Attempt {
-    /// Nothing held, by this policy and over this number of items.
+    /// Makes an attempt that holds nothing, by this policy and over this number of items.
     pub fn new(alloc: Global, policy: Policy, items: u16) -> Result<Attempt, NoMemory>
         ensures { IfOk result (λ a. a ≡ record { policy = policy; items = items; reads = [] }) }
     {
@@ -51,28 +51,28 @@ impl Attempt {
         })
     }
 
-    /// The number of held reads.
+    /// Returns the number of held reads.
     pub fn len(&self) -> usize
         ensures { result ≡ length self.now.reads }
     {
         self.held.len()
     }
 
-    /// The held reads as a verdict line has them.
+    /// Returns the held reads as a verdict line has them.
     pub fn line_reads(&self) -> &[ReadOf]
         ensures { result.now ≡ map line_read self.now.reads }
     {
         self.line_reads.as_slice()
     }
 
-    /// Whether a read in this cycle comes too late after the held ones, regardless of its item.
+    /// Tells whether a read in this cycle comes too late after the held ones, regardless of its item.
     pub fn is_late(&self, cycle: u32) -> bool
         ensures { (item : ℕ) → result ≡ is_late self.now.policy (map place_of self.now.reads) (record { item = item; cycle = cycle }) }
     {
         is_late_under(self.policy, &self.held, cycle)
     }
 
-    /// Whether a read in this cycle lies too far from the held ones to be judged, regardless of its item. That is so only in versions whose
+    /// Tells whether a read in this cycle lies too far from the held ones to be judged, regardless of its item. That is so only in versions whose
     /// buckets have ages: from 2 on.
     pub fn is_far(&self, version: u8, cycle: u32) -> bool
         ensures { (item : ℕ) → result ≡ are_far version (map place_of self.now.reads ++ record { item = item; cycle = cycle } ∷ []) }
@@ -80,7 +80,7 @@ impl Attempt {
         version >= 2 && self.held.spans(cycle)
     }
 
-    /// Holds the read where it clashes with no held one, and else names the clash.
+    /// Holds the read if it clashes with no held one; else names the clash.
     pub fn try_hold(&mut self, item: u16, cycle: u32, value: u64, entries: &[u32]) -> Option<Clash>
         requires room { length self.old.reads < ROOM }
         requires new { IsNew (columns_of self.old) (heard_of (read_with item cycle value entries.now)) }
@@ -95,7 +95,7 @@ impl Attempt {
         None
     }
 
-    /// Holds nothing any more.
+    /// Drops all held reads.
     pub fn clear(&mut self)
         ensures { self.new ≡ record self.old { reads = [] } }
     {

@@ -13,7 +13,7 @@ use column_check::ColumnCheck;
 use held_reads::{HeldEntries, PolicyCheck};
 use vector_policies::{DatacycleCheck, RMatrixCheck};
 
-/// The held read of least item number that clashes with the new one under the policy.
+/// Returns the held read of least item number that clashes with the new one under the policy.
 pub fn clash_under(
     policy: Policy,
     held: &HeldEntries,
@@ -31,7 +31,7 @@ pub fn clash_under(
     }
 }
 
-/// Whether a read in this cycle comes too late after the held ones under the policy, regardless of its item.
+/// Tells whether a read in this cycle comes too late after the held ones under the policy, regardless of its item.
 #[tactic(auto, unfolding(air_history::specs::Clashes::is_late))]
 pub fn is_late_under(policy: Policy, held: &HeldEntries, cycle: u32) -> bool
     ensures { (item : ℕ) → result ≡ is_late policy (map read_at held.now.reads) (record { item = item; cycle = cycle }) }
@@ -43,7 +43,7 @@ pub fn is_late_under(policy: Policy, held: &HeldEntries, cycle: u32) -> bool
     }
 }
 
-/// Whether the cycle is below that of the last held read, if there is one.
+/// Tells whether the cycle is below that of the last held read, if there is one.
 fn is_below_last(cycle: u32, held: &HeldEntries) -> bool
     ensures { result ≡ nat_lt cycle (last_cycle (map read_at held.now.reads)) }
 {

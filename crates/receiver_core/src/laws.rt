@@ -37,7 +37,7 @@ pub fn held_law()
         HoldsTruly air H reader s → IsSound air.scheme.policy H (map place_of s.held) }
 {}
 
-/// Of distinct items, of which the first ones are held, the wanted one is the first that isn't.
+/// Among distinct items, of which the first ones are held, the wanted one is the first that isn't.
 pub fn wanted_law()
     ensures { (reader : Reader) (s : State) → has_repeat (query_of reader s) ≡ false →
         map (λ r. r.item) s.held ≡ take (length s.held) (query_of reader s) → wanted reader s ≡ first_unheld reader s }

@@ -29,7 +29,7 @@ impl Model for Reader {
 }
 
 impl Reader {
-    /// The deck's reader of a number.
+    /// Returns the deck's reader of a number.
     pub fn new(alloc: Global, deck: &Deck, number: u32) -> Result<Reader, NoMemory>
         requires { number < length deck.now.readers }
         ensures told { IfOk result (λ r. r ≡ reader_of deck.now number) }
@@ -46,35 +46,35 @@ impl Reader {
         })
     }
 
-    /// For how many copies there is room.
+    /// Tells for how many copies there is room.
     pub fn room(&self) -> u32
         ensures { result ≡ self.now.plan.room }
     {
         self.plan.room
     }
 
-    /// After how many cycles a copy is too old.
+    /// Tells after how many cycles a copy is too old.
     pub fn age(&self) -> u32
         ensures { result ≡ self.now.plan.age }
     {
         self.plan.age
     }
 
-    /// How often a query is tried.
+    /// Tells how often a query is tried.
     pub fn tries(&self) -> u32
         ensures { result ≡ self.now.plan.tries }
     {
         self.plan.tries
     }
 
-    /// Whether there is a query of this number.
+    /// Tells whether there is a query of this number.
     pub fn has(&self, query: u32) -> bool
         ensures { IsTrue result ↔ (query < length self.now.queries) }
     {
         (query as usize) < self.queries.len()
     }
 
-    /// The item at a place of a query, if there is one.
+    /// Returns the item at a place of a query, if there is one.
     pub fn item(&self, query: u32, place: usize) -> Option<u16>
         ensures { result ≡ slice_get (get_or self.now.queries query []) place }
     {
@@ -89,7 +89,7 @@ impl Reader {
     }
 }
 
-/// The queries of the deck's reader of a number.
+/// Returns the queries of the deck's reader of a number.
 fn queries(alloc: Global, deck: &Deck, number: u32) -> Result<Vec<Vec<u16>>, NoMemory>
     requires { number < length deck.now.readers }
     ensures { IfOk result (λ queries. map (λ q. q.items) queries.items ≡ get_or deck.now.queries number []) }

@@ -28,7 +28,7 @@ impl Model for ReadList {
 }
 
 impl ReadList {
-    /// No reads.
+    /// Makes a list of no reads.
     pub fn new() -> ReadList
         ensures { result ≡ [] }
     {
@@ -43,14 +43,14 @@ impl ReadList {
         }
     }
 
-    /// The reads.
+    /// Returns the reads.
     pub fn as_slice(&self) -> &[ReadOf]
         ensures { result.now ≡ self.now }
     {
         &self.places[..self.len]
     }
 
-    /// One read more, after the others.
+    /// Adds one read, after the others.
     pub fn push(&mut self, read: ReadOf)
         requires { length self.old < ROOM }
         ensures { self.new ≡ self.old ++ read ∷ [] }
@@ -59,7 +59,7 @@ impl ReadList {
         self.len += 1;
     }
 
-    /// These reads in place of the others.
+    /// Puts these reads in place of the others.
     pub fn set(&mut self, reads: &[ReadOf])
         requires { length reads.now ≤ ROOM }
         ensures { self.new ≡ reads.now }
@@ -68,7 +68,7 @@ impl ReadList {
         self.len = reads.len();
     }
 
-    /// No reads any more.
+    /// Drops all reads.
     pub fn clear(&mut self)
         ensures { self.new ≡ [] }
     {

@@ -88,7 +88,7 @@ impl Model for Receiver {
 }
 
 impl Receiver {
-    /// The deck's receiver of a number, at its start. It takes all memory, and shares the plans. `Plans::plan` makes the deck's plans.
+    /// Makes the deck's receiver of a number, at its start. Takes all memory, and shares the plans. `Plans::plan` makes the deck's plans.
     pub fn new(alloc: Global, deck: &Deck, number: u32, plans: &Plans) -> Result<Receiver, NoMemory>
         requires number { number < length deck.now.readers }
         requires plans { plans.now ≡ plans_in deck.now }
@@ -122,7 +122,7 @@ impl Receiver {
         })
     }
 
-    /// No verdict waits, and no copy of the wanted item is kept.
+    /// Tells whether no verdict waits, and no copy of the wanted item is kept.
     pub fn settled(&self) -> bool
         ensures { IsTrue result ↔ IsSettled self.now }
     {
@@ -148,7 +148,7 @@ impl Receiver {
         self.hear(&decode(bytes))
     }
 
-    /// Hears what `decode` answered. Where many receivers hear the same bytes they are decoded once, and a bucket that isn't
+    /// Hears what `decode` answered. If many receivers hear the same bytes they are decoded once, and a bucket that isn't
     /// wanted costs each of them a look at its head.
     pub fn hear(&mut self, heard: &Result<BucketView<'_>, BucketFault>) -> Fed
         requires settled { IsSettled self.old }
@@ -215,7 +215,7 @@ impl Receiver {
         }
     }
 
-    /// The query at hand stays unfinished, and the next one begins; all copies are dropped. Where no query is left, only the copies are dropped.
+    /// Leaves the query at hand unfinished, begins the next one, and drops all copies. If no query is left, only the copies are dropped.
     pub fn end(&mut self) -> Option<Verdict>
         requires settled { IsSettled self.old }
         ensures state { record self.new.state { lines = lines_of result self.new.last } ≡ end_query (by_entries self.old.air.scheme) self.old.air self.old.reader self.old.state }
@@ -236,15 +236,15 @@ impl Receiver {
         self.waiting.take()
     }
 
-    /// The reads of the last verdict, in the order of reading; none before the first verdict. From the call that makes a verdict they are its reads, even
-    /// before `step` returns it.
+    /// Returns the reads of the last verdict, in the order of reading; none before the first verdict. From the call that makes a verdict they are its
+    /// reads, even before `step` returns it.
     pub fn last_reads(&self) -> &[ReadOf]
         ensures { result.now ≡ self.now.last }
     {
         self.last.as_slice()
     }
 
-    /// The wanted item: the first of the query that isn't held; nothing if no query is left.
+    /// Returns the wanted item: the first of the query that isn't held; nothing if no query is left.
     pub fn wanted(&self) -> Option<u16>
         ensures told { result ≡ wanted self.now.reader self.now.state }
         ensures first { result ≡ first_unheld self.now.reader self.now.state }
@@ -253,14 +253,14 @@ impl Receiver {
         self.reader.item(self.query, self.held.len())
     }
 
-    /// Whether a bucket fits the deck.
+    /// Tells whether a bucket fits the deck.
     pub fn fits(&self, bucket: &BucketView<'_>) -> bool
         ensures { result ≡ fits self.now.air bucket.now }
     {
         self.air.fits(bucket)
     }
 
-    /// The counts of what was heard.
+    /// Returns the counts of what was heard.
     pub fn counts(&self) -> Counts
         ensures { result ≡ self.now.state.counts }
     {

@@ -26,8 +26,8 @@ pub struct AiredScript {
     pub sessions: Sessions,
 }
 
-/// Airs the script of a deck piece by piece: each reader hears its own ether of what is aired, and the sink takes the piece. Of the tape one
-/// piece is kept and, with ethers, the last nine buckets. The last two clauses compare with the moment when nothing was taken.
+/// Airs the script of a deck piece by piece: each reader hears its own ether of what is aired, and the sink takes the piece. One piece of the
+/// tape is kept and, with ethers, the last nine buckets. Both clauses on the sink are relative to an empty output.
 pub fn air_script<P, S: PieceSink<P>>(
     alloc: Global,
     planned: &Planned,
@@ -51,8 +51,8 @@ pub fn air_script<P, S: PieceSink<P>>(
     Ok(AiredScript { events, sessions })
 }
 
-/// Beams the script of a deck piece by piece: the sink takes each piece of the indexed tape. No more of the tape than a piece is kept. Told of the
-/// moment when nothing was taken.
+/// Beams the script of a deck piece by piece: the sink takes each piece of the indexed tape. No more of the tape than a piece is kept. Both clauses
+/// are relative to an empty output.
 pub fn beam_script<P, S: PieceSink<P>>(
     alloc: Global,
     planned: &Planned,

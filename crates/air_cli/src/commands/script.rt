@@ -45,7 +45,7 @@ pub(crate) fn script<S: Shelf>(
     }
 }
 
-/// The named deck with its plans, if its script can be aired: what that gives is known then, for any output that is to take the tape.
+/// Reads and plans the named deck; refuses an overlong tape.
 fn read_script<S: Shelf>(alloc: Global, shelf: &mut S, name: &str) -> Result<Planned, Status>
     ensures few { IfOk result (λ deck. length (script_tape deck) ≤ MOST_TAPE_BYTES) }
     ensures made { IfOk result (λ deck. IsMade (script_meaning name.now None) (S.state shelf.old) (S.state shelf.new) (script_given deck)) }
@@ -61,7 +61,7 @@ fn read_script<S: Shelf>(alloc: Global, shelf: &mut S, name: &str) -> Result<Pla
     Ok(planned)
 }
 
-/// Airs a deck's script, and writes its tape to the output of this name, if one is named: the text of the report.
+/// Airs a deck's script, writes its tape to the output of this name, if one is named, and returns the text of the report.
 fn air_to_output<S: Shelf>(
     alloc: Global,
     shelf: &mut S,
@@ -86,7 +86,7 @@ fn air_to_output<S: Shelf>(
     Ok(text)
 }
 
-/// The text of the report of a deck's script, whose tape goes nowhere: few buckets are encoded that no reader opens.
+/// Returns the text of the report of a deck's script, whose tape goes nowhere: few buckets are encoded that no reader opens.
 fn hear_to_text(alloc: Global, planned: &Planned) -> Result<Vec<u8>, NoMemory>
     requires { length (script_tape planned.now) ≤ MOST_TAPE_BYTES }
     ensures { IfOk result (λ text. text.items ≡ script_output planned.now) }

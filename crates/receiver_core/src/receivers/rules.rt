@@ -23,7 +23,7 @@ use bucket_codec::{BucketView, ViewKind};
 use pix_cache::PixCache;
 
 impl Receiver {
-    /// What one heard bucket does.
+    /// Hears one bucket: counts it as foreign, dozed or late, or opens it.
     pub(super) fn hear_bucket(&mut self, bucket: &BucketView<'_>) -> Fed
         requires given { self.old.state.lines ≡ [] }
         requires counts { heard_count self.old.state.counts + 1 < 2 ^ 64 }
@@ -49,7 +49,7 @@ impl Receiver {
         Fed::Opened
     }
 
-    /// The newest heard cycle is this one, where none was newer; the copies are put in the order of the program in force in it.
+    /// Raises the newest cycle if this one is newer, and reorders the copies.
     pub(super) fn come_to(&mut self, cycle: u32)
         ensures { self.new ≡ record self.old { state = record self.old.state { now = max self.old.state.now cycle } } }
     {
@@ -58,7 +58,7 @@ impl Receiver {
         self.latest = now;
     }
 
-    /// Whether the bucket has the wanted item.
+    /// Tells whether the bucket has the wanted item.
     pub(super) fn wants(&self, bucket: &BucketView<'_>) -> bool
         ensures { result ≡ is_read_wanted (wanted self.now.reader self.now.state) (read_in bucket.now.cycle bucket.now.body) }
     {
@@ -71,8 +71,7 @@ impl Receiver {
         }
     }
 
-    /// The bucket's read joins the held ones, or it ends the attempt: where it comes aged, and only else where it clashes. In all cases it is
-    /// offered to the copies.
+    /// Holds the read, or ends the attempt: as aged, else as a clash. Offers the read to the copies in all cases.
     pub(super) fn open(&mut self, bucket: &BucketView<'_>)
         requires given { self.old.state.lines ≡ [] }
         requires counts { self.old.state.counts.opened + 1 < 2 ^ 64 }
@@ -99,7 +98,7 @@ impl Receiver {
         }
     }
 
-    /// Where all items of the query are held, it is accepted, and the next query begins.
+    /// Accepts the query if all its items are held, and begins the next one.
     pub(super) fn accept_if_whole(&mut self)
         requires given { self.old.state.lines ≡ [] }
         requires left { self.old.state.query < length self.old.reader.queries }
@@ -111,7 +110,7 @@ impl Receiver {
         }
     }
 
-    /// The attempt ends, since the read of an item in a cycle clashes with the held one of another.
+    /// Ends the attempt, since the read of an item in a cycle clashes with the held one of another.
     pub(super) fn abort(&mut self, item: u16, cycle: u32, clash: u16)
         requires given { self.old.state.lines ≡ [] }
         requires left { self.old.state.query < length self.old.reader.queries }
@@ -121,7 +120,7 @@ impl Receiver {
         self.next_attempt();
     }
 
-    /// The attempt ends, since the read of an item in a cycle lies too far from the held ones.
+    /// Ends the attempt, since the read of an item in a cycle lies too far from the held ones.
     pub(super) fn end_aged(&mut self, item: u16, cycle: u32)
         requires given { self.old.state.lines ≡ [] }
         requires left { self.old.state.query < length self.old.reader.queries }
@@ -131,7 +130,7 @@ impl Receiver {
         self.next_attempt();
     }
 
-    /// The attempt at hand has this verdict, which waits from now on.
+    /// Gives the attempt at hand this verdict, which waits from now on.
     pub(super) fn give(&mut self, kind: VerdictKind)
         requires given { self.old.state.lines ≡ [] }
         ensures { self.new ≡ in_state self.old (with_line (by_entries self.old.air.scheme) kind self.old.state) }
@@ -144,7 +143,7 @@ impl Receiver {
         });
     }
 
-    /// Another attempt begins, or the next query where this was the last try.
+    /// Begins another attempt, or the next query after the last try.
     #[tactic(auto, unfolding(air_model::specs::Sessions::next_attempt))]
     pub(super) fn next_attempt(&mut self)
         requires { self.old.state.query < length self.old.reader.queries }
@@ -158,7 +157,7 @@ impl Receiver {
         self.next_query();
     }
 
-    /// The next query begins.
+    /// Begins the next query.
     #[tactic(auto, unfolding(air_model::specs::Sessions::next_query))]
     pub(super) fn next_query(&mut self)
         requires { self.old.state.query < length self.old.reader.queries }
@@ -170,7 +169,7 @@ impl Receiver {
     }
 }
 
-/// Copies that are in the order of one cycle are put in that of another, where it is another edition's.
+/// Puts the copies in the order of another cycle, if that is of another edition.
 fn reorder(copies: &mut PixCache, air: &Air, before: u32, now: u32)
     requires numbers { length (pix_at air.now now) ≡ length copies.old.pix }
     requires order { copies.old.pix ≡ pix_at air.now before }
@@ -181,7 +180,7 @@ fn reorder(copies: &mut PixCache, air: &Air, before: u32, now: u32)
     }
 }
 
-/// The copy of the item with which the read clashes is dropped, and the read is offered to the copies.
+/// Drops the copy of the item with which the read clashes, and offers the read to the copies.
 fn offer(
     copies: &mut PixCache,
     clash: Option<Clash>,

@@ -15,7 +15,7 @@ use crate::attempts::Attempt;
 use pix_cache::PixCache;
 
 impl Receiver {
-    /// Whether a copy of the wanted item is kept.
+    /// Tells whether a copy of the wanted item is kept.
     pub(super) fn has_copy(&self) -> bool
         ensures { result ≡ is_some (copy_of (wanted self.now.reader self.now.state) self.now.state) }
     {
@@ -25,7 +25,7 @@ impl Receiver {
         self.copies.get(item).is_some()
     }
 
-    /// Turns are taken up to the next line.
+    /// Takes turns up to the next line.
     pub(super) fn settle_to_line(&mut self)
         requires given { self.old.state.lines ≡ [] }
         ensures { self.new ≡ in_state self.old (step (by_entries self.old.air.scheme) self.old.air self.old.reader self.old.state) }
@@ -37,8 +37,7 @@ impl Receiver {
         }
     }
 
-    /// The copy of the wanted item becomes a read, or it is dropped where it can't be used; without one nothing changes. It tells
-    /// whether one was used.
+    /// Reads the wanted item from its copy, or drops the copy if it can't be used; tells whether it read one.
     pub(super) fn turn(&mut self) -> bool
         requires given { self.old.state.lines ≡ [] }
         ensures state { self.new ≡ in_state self.old (turn (by_entries self.old.air.scheme) self.old.air self.old.reader self.old.state) }
@@ -70,7 +69,7 @@ impl Receiver {
     }
 }
 
-/// Whether a copy of this cycle is too old now, or comes too late after the held reads, or lies too far from them in this version,
+/// Tells whether a copy of this cycle is too old now, or comes too late after the held reads, or lies too far from them in this version,
 /// regardless of its item.
 fn is_stale(held: &Attempt, version: u8, cycle: u32, latest: u32, age: u32) -> bool
     ensures { (item : ℕ) → result ≡ (nat_lt age (latest - cycle) || is_late held.now.policy (map place_of held.now.reads) (record { item = item; cycle = cycle })
