@@ -1,6 +1,6 @@
 //! Plain files that are read again after a command has ended: what came through a pipe is gone.
 //!
-//! Of what makes notes only this module has the runtime's files and the shelf. The others get a `ReadsAgain`, which has no call that writes.
+//! This module alone, of those that make notes, has the runtime's files and the shelf. The others get a `ReadsAgain`, which has no call that writes.
 
 use air_base::limits::MOST_TAPE_BYTES;
 use air_cli::{read_deck_file, read_runnable_deck};

@@ -1,6 +1,6 @@
 //! These pins say what `cast_run` sends to a mast in memory, and what `ear_sessions` leaves of three datagrams that wait at an ear in memory. They
-//! fix the port, the end of what was sent, and the cause of each failure of a device. Of `cast_on_air` and `hear_on_air` they say that a device which
-//! failed isn't told as a lack of memory.
+//! fix the port, the end of what was sent, and the cause of each failure of a device. They also say that `cast_on_air` and `hear_on_air` don't tell a
+//! failed device as a lack of memory.
 
 ghost use Rattle.std.specs.Prelude.{◌≡◌, ◌≤◌, ◌+◌, ℕ, [], ◌∷◌, length, Err, None, Some, OnErr, OnOk};
 ghost use Rattle.air_devices.specs.Masts.{nothing_sent};

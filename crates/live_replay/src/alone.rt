@@ -18,7 +18,7 @@ use air_base::{NoMemory, ReadOf};
 use air_history::Event;
 use std::alloc::Global;
 
-/// Where a walk for reads may begin and end. No commit before the first place writes an item after its read's origin, and each origin is
+/// The places at which a walk for reads may begin and end. No commit before the first place writes an item after its read's origin, and each origin is
 /// before the end.
 #[derive(Clone, Copy, Debug, PartialEq, Eq)]
 struct WalkRange {
@@ -152,7 +152,7 @@ fn after_origin(origin: Option<u64>, count: usize) -> u64
     }
 }
 
-/// Where a walk for a read may begin and end.
+/// Finds the places at which a walk for a read may begin and end.
 fn range_of(replay: &Replay<'_>, read: &ReadOf) -> WalkRange
     ensures within { result.end ≤ length replay.now.history }
     ensures late { (q : ℕ) → (writes (event_at replay.now.history q) read.now.item && is_after (origin replay.now.history (place_of_line read.now)) q) ≡ true → result.first ≤ q }
@@ -165,7 +165,7 @@ fn range_of(replay: &Replay<'_>, read: &ReadOf) -> WalkRange
     }
 }
 
-/// Where a walk for reads may begin and end.
+/// Finds the places at which a walk for reads may begin and end.
 fn range_of_all(replay: &Replay<'_>, reads: &[ReadOf]) -> WalkRange
     ensures within { result.end ≤ length replay.now.history }
     ensures late { (q : ℕ) → overwrites_read replay.now.history (places_read reads.now) q ≡ true → result.first ≤ q }

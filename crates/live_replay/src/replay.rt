@@ -132,7 +132,7 @@ impl<'a> Replay<'a> {
         self.deck.items()
     }
 
-    /// What is next to a read among the writes of its item. Of an item that the deck doesn't have, nothing is known.
+    /// Finds the writes next to a read among those of its item. Nothing is known of an item that the deck doesn't have.
     pub fn around(&self, item: u16, cycle: u32) -> Neighbours
         ensures origin { result.origin ≡ origin self.now.history (read_in_cycle item cycle) }
         ensures next { (q : ℕ) → writes (event_at self.now.history q) item ≡ true → length (front self.now.history cycle) ≤ q → result.next ≤ q }
