@@ -1,8 +1,8 @@
 -- What the proofs of `cast` need of its definitions.
-use Rattle.std.proofs.Common.{◌≡◌, ◌≢◌, ℕ, ◌≤◌, List, Some, refl, sym, ap, subst, inl, inr, arith}
+use Rattle.std.proofs.Common.{◌≡◌, ◌≢◌, ℕ, ◌≤◌, List, Result, Err, Some, refl, sym, ap, subst, inl, inr, arith}
 use Rattle.std.specs.Prelude.{◌⊎◌}
 use Rattle.air_base.specs.declared.limits.TheConstants.{MOST_TAPE_BYTES}
-use Rattle.deck_runs.specs.Casts.{IsCastAnswer, all_sent}
+use Rattle.deck_runs.specs.Casts.{FailsFirst, IsCastAnswer, all_sent}
 use Rattle.air_devices.specs.Counts.{NoCountFalls, Rose}
 use Rattle.air_devices.specs.Masts.{Changes, MastState}
 use Rattle.air_devices.specs.Shelves.{ShelfState}
@@ -115,6 +115,19 @@ pub leaves_cast : (deck : List ℕ) (to : ℕ) (shelf : ShelfState) (before now 
     → (now ≡ before) ⊎ HasSent d to before now → LeavesMast (Some (AsksCast deck to)) shelf before now
 leaves_cast deck to shelf before now d spells made (inl same) = inl same
 leaves_cast deck to shelf before now d spells made (inr sent) = inr (d, spells, made, sent)
+
+-- ---- the first failure
+
+-- A deck that can't be run isn't refused for the air.
+pub no_air : {P : Type 0} (deck : List ℕ) (before now : ShelfState) (s : Status) → UnrunnableCause deck before now s → (at : ℕ) → s ≡ status.AirFault at → P
+unfolding UnrunnableCause DeckCause UnreadCause
+no_air deck before now s cause at is = absurd (subst (UnrunnableCause deck before now) is cause)
+
+-- The status tells the first failure that the run's fault tells.
+pub cast_first : {M T : Type 0} (state : M → MastState) (old new : M) (r : Result T RunFault) (f : RunFault) → r ≡ Err f → ((sent : ℕ) → r ≡ Err (fault.Mast sent) → FailsFirst state old new)
+    → (at : ℕ) → cast_status f ≡ status.AirFault at → FailsFirst state old new
+cast_first state old new r (fault.Mast sent) is first at same = first sent is
+cast_first state old new r fault.NoMemory is first at same = cc
 
 -- ---- what it gives
 

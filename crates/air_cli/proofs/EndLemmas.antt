@@ -1,9 +1,12 @@
 -- From how a command ended to what its status means, and to what the command leaves.
-use Rattle.std.proofs.Common.{ℕ, List, Option, Result, Ok, Err, sym, ◌∙◌, subst, inl, inr}
+use Rattle.std.proofs.Common.{◌≡◌, ℕ, List, Option, Result, Ok, Err, sym, ◌∙◌, subst, inl, inr}
 use Rattle.std.specs.Prelude.{IfErr, IfOk, MatchResult}
 use Rattle.air_devices.specs.Shelves.{ShelfState}
 use Rattle.air_report.specs.declared.status.Status.{Status}
+use Rattle.air_report.specs.declared.status.Status.TheVariants as status
 use Rattle.air_cli.specs.ReportsAndTapes.{ReportAndTape}
+use Rattle.air_cli.specs.Deliveries.{Delivers}
+use Rattle.air_cli.specs.Refusals.{Refuses}
 use Rattle.air_cli.specs.Answers.{Leaves, QuietAnswers}
 use Rattle.air_cli.specs.Meanings.{Meaning}
 use Rattle.air_cli.specs.Private.Endings.{EndsGiven, EndsUnmade}
@@ -44,3 +47,23 @@ leaves_ended command (Ok given) before mid now s reads ends = record {
   counts = falls_twice before.faults mid.faults now.faults reads.counts ends.counts;
 }
 leaves_ended command (Err why) before mid now s reads ends = leaves_unmade command before mid now why s reads ends
+
+-- ---- a failed call of the air
+
+same_refusal : (why s : Status) (before now : ShelfState) (at : ℕ) → Refuses why before now s → s ≡ status.AirFault at → why ≡ status.AirFault at
+same_refusal why s before now at (inl h) is = sym h.0 ∙ is
+same_refusal why s before now at (inr h) is = cc (h.0, is)
+
+not_given : (output : Option (List ℕ)) (given : ReportAndTape) (mid now : ShelfState) (s : Status) (at : ℕ) → Delivers output given mid now s → s ≡ status.AirFault at → ⊥
+unfolding Delivers
+not_given output given mid now s at h is = subst (Delivers output given mid now) is h
+
+unmade_air : (why s : Status) (mid now : ShelfState) (at : ℕ) → EndsUnmade why mid now s → s ≡ status.AirFault at → why ≡ status.AirFault at
+unmade_air why s mid now at (inl h) is = let same = h.1 in cc (same, is)
+unmade_air why s mid now at (inr ends) is = same_refusal why s mid now at ends.gives is
+
+-- It is told only if nothing was made for that reason: then what holds of that reason holds.
+pub air_ended : {P : Type 0} (output : Option (List ℕ)) (made : Result ReportAndTape Status) (mid now : ShelfState) (s : Status) → IfErr made (λ why. (at : ℕ) → why ≡ status.AirFault at → P)
+    → EndsAt output made mid now s → (at : ℕ) → s ≡ status.AirFault at → P
+air_ended output (Ok given) mid now s holds ends at is = absurd (not_given output given mid now s at ends.gives is)
+air_ended output (Err why) mid now s holds ends at is = holds at (unmade_air why s mid now at ends is)

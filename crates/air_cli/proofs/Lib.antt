@@ -45,6 +45,7 @@ mod SplitExamples
 mod SeekExamples
 mod RunExamples
 mod ListenExamples
+mod FailureExamples
 mod AnswerExamples
 mod HeadlineExamples
 mod StandExamples

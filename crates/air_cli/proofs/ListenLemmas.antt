@@ -1,8 +1,8 @@
 -- What the proofs of `listen` need of its definitions.
-use Rattle.std.proofs.Common.{◌≡◌, ◌≢◌, ◌∙◌, ℕ, List, [], Option, Some, None, refl, ap, ap₂, inl, inr, arith}
+use Rattle.std.proofs.Common.{◌≡◌, ◌≢◌, ◌∙◌, ℕ, List, Result, Err, [], Option, Some, None, refl, ap, ap₂, inl, inr, arith}
 use Rattle.std.specs.Prelude.{◌⊎◌}
 use Rattle.chunk_program.specs.Plans.{AreShort}
-use Rattle.air_cli.specs.Hearings.{AreEarSessions, IsHearAnswer, IsHeardOnEar, TakesJust, TakesUpTo}
+use Rattle.air_cli.specs.Hearings.{AreEarSessions, EarFailsFirst, IsHearAnswer, IsHeardOnEar, TakesJust, TakesUpTo}
 use Rattle.air_cli.specs.declared.commands.hearings.HearFault.{HearFault}
 use Rattle.air_cli.specs.declared.commands.hearings.HearFault.TheVariants as fault
 use Rattle.air_devices.specs.Counts.{NoCountFalls, Rose}
@@ -128,3 +128,11 @@ is_listening d on before now text verdicts counts h true same calm port = record
   calm = calm;
   port = port;
 }
+
+-- ---- the first failure
+
+-- The status tells the first failure that the fault tells.
+pub hear_first : {E T : Type 0} (state : E → EarState) (old new : E) (r : Result T HearFault) (f : HearFault) → r ≡ Err f → ((heard : ℕ) → r ≡ Err (fault.Ear heard) → EarFailsFirst state old new)
+    → (at : ℕ) → hear_status f ≡ status.AirFault at → EarFailsFirst state old new
+hear_first state old new r (fault.Ear heard) is first at same = first heard is
+hear_first state old new r fault.NoMemory is first at same = cc

@@ -48,3 +48,11 @@ pub record AreEarSessions (deck : Deck) (before now : Option (List (List ℕ))) 
 abbrev pub IsHearAnswer : ℕ → EarState → EarState → HearFault → Type 0
 IsHearAnswer most before now (fault.Ear heard) = Rose before.faults now.faults × (heard < most) × TakesJust heard before.told now.told
 IsHearAnswer most before now fault.NoMemory = (now.faults ≡ before.faults) × ((count : ℕ) × (count ≤ most) × TakesJust count before.told now.told)
+
+-- Nothing was heard after the first failure: the ear just before it had counted none more than at first, and what was still to be heard then still
+-- is. The witness is an ear and not a state, which could be made up.
+pub record EarFailsFirst {E : Type 0} (state : E → EarState) (before now : E) : Type 0 where
+  pub just_before : E
+  pub calm : (state just_before).faults ≡ (state before).faults
+  pub rose : Rose (state just_before).faults (state now).faults
+  pub kept : (state now).told ≡ (state just_before).told

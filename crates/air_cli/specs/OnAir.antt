@@ -1,11 +1,13 @@
 -- What words mean to `air_main`, and what a call leaves of the mast and of the ear.
-use Rattle.std.specs.Prelude.{◌≡◌, ◌⊎◌, Option, Some}
+use Rattle.std.specs.Prelude.{◌≡◌, ◌⊎◌, Option, Some, ⊤}
 use Rattle.air_devices.specs.Ears.{EarState}
 use Rattle.air_devices.specs.Masts.{MastState}
 use Rattle.air_devices.specs.Shelves.{ShelfState}
+use Rattle.deck_runs.specs.Casts.{FailsFirst}
 use Rattle.air_cli.specs.NamedDecks.{HasDeck}
 use Rattle.air_cli.specs.Cast.{HasSent, cast_meaning}
 use Rattle.air_cli.specs.Commands.{quiet_meaning}
+use Rattle.air_cli.specs.Hearings.{EarFailsFirst}
 use Rattle.air_cli.specs.Listen.{HasHeardPort, listen_meaning}
 use Rattle.air_cli.specs.Meanings.{Meaning}
 use Rattle.air_cli.specs.Run.{run_meaning}
@@ -30,3 +32,9 @@ LeavesMast other shelf before now = now ≡ before
 abbrev pub LeavesEar : Option Request → ShelfState → EarState → EarState → Type 0
 LeavesEar (Some (AsksListen deck port)) shelf before now = (now ≡ before) ⊎ HasDeck deck shelf (λ d. HasHeardPort d port before now)
 LeavesEar other shelf before now = now ≡ before
+
+-- After the first failure of the mast `cast` sent nothing, and after that of the ear `listen` heard nothing.
+abbrev pub StopsAtFailure : {M E : Type 0} → (M → MastState) → (E → EarState) → Option Request → M → M → E → E → Type 0
+StopsAtFailure mast ear (Some (AsksCast deck port)) sender sender_now hearer hearer_now = FailsFirst mast sender sender_now
+StopsAtFailure mast ear (Some (AsksListen deck port)) sender sender_now hearer hearer_now = EarFailsFirst ear hearer hearer_now
+StopsAtFailure mast ear other sender sender_now hearer hearer_now = ⊤

@@ -3,14 +3,16 @@
 //! `run`, `cast` and `listen` are run here; all other words are left to `air_quiet`. These three make all that they print and write, or find why they
 //! are refused, before anything is printed or written.
 
-ghost use Rattle.std.specs.Prelude.{◌≡◌, map, string_bytes, None, Some};
+ghost use Rattle.std.specs.Prelude.{◌≡◌, ℕ, map, string_bytes, None, Some};
 ghost use Rattle.air_devices.specs.Masts.{nothing_sent};
 ghost use Rattle.air_devices.specs.WhatIsTold.{WhereTold};
 ghost use Rattle.air_cli.specs.Answers.{Completes, IsSuccess, Leaves, QuietAnswers};
+ghost use Rattle.deck_runs.specs.Casts.{FailsFirst};
 ghost use Rattle.air_cli.specs.Cast.{cast_meaning};
 ghost use Rattle.air_cli.specs.Headline.{Headline};
+ghost use Rattle.air_cli.specs.Hearings.{EarFailsFirst};
 ghost use Rattle.air_cli.specs.Listen.{listen_meaning};
-ghost use Rattle.air_cli.specs.OnAir.{LeavesEar, LeavesMast, words_meaning};
+ghost use Rattle.air_cli.specs.OnAir.{LeavesEar, LeavesMast, StopsAtFailure, words_meaning};
 ghost use Rattle.air_cli.specs.Run.{run_meaning};
 ghost use Rattle.air_cli.specs.Words.{AsksCast, AsksListen, asked_of};
 
@@ -46,6 +48,7 @@ pub fn air_main<R: Threads + Wait + Sync, S: Shelf, M: Mast + Send, E: Ear, G: G
     ensures leaves { Leaves (words_meaning (asked_of (map (λ w. string_bytes w) words.now)) (M.state mast.old) (M.state mast.new) (E.state ear.old) (E.state ear.new)) (S.state shelf.old) (S.state shelf.new) }
     ensures mast { LeavesMast (asked_of (map (λ w. string_bytes w) words.now)) (S.state shelf.old) (M.state mast.old) (M.state mast.new) }
     ensures ear { LeavesEar (asked_of (map (λ w. string_bytes w) words.now)) (S.state shelf.old) (E.state ear.old) (E.state ear.new) }
+    ensures first { (at : ℕ) → result ≡ Status.AirFault at → StopsAtFailure M.state E.state (asked_of (map (λ w. string_bytes w) words.now)) mast.old mast.new ear.old ear.new }
 {
     match command_of(words) {
         Some(Command::Run { deck, tape }) => run_deck(rt, alloc, shelf, deck, tape, gate),
@@ -86,6 +89,7 @@ fn cast_deck<R: Threads + Wait + Sync, S: Shelf, M: Mast + Send, G: Gate + Sync>
     ensures answers { QuietAnswers (cast_meaning deck.now port (M.state mast.old) (M.state mast.new)) (S.state shelf.old) (S.state shelf.new) result }
     ensures leaves { Leaves (cast_meaning deck.now port (M.state mast.old) (M.state mast.new)) (S.state shelf.old) (S.state shelf.new) }
     ensures mast { LeavesMast (Some (AsksCast deck.now port)) (S.state shelf.old) (M.state mast.old) (M.state mast.new) }
+    ensures first { (at : ℕ) → result ≡ Status.AirFault at → FailsFirst M.state mast.old mast.new }
 {
     let made = cast(rt, alloc, shelf, mast, deck, port, gate);
     give_or_refuse(alloc, shelf, None, made)
@@ -103,6 +107,7 @@ fn listen_deck<S: Shelf, E: Ear>(
     ensures answers { QuietAnswers (listen_meaning deck.now port (E.state ear.old) (E.state ear.new)) (S.state shelf.old) (S.state shelf.new) result }
     ensures leaves { Leaves (listen_meaning deck.now port (E.state ear.old) (E.state ear.new)) (S.state shelf.old) (S.state shelf.new) }
     ensures ear { LeavesEar (Some (AsksListen deck.now port)) (S.state shelf.old) (E.state ear.old) (E.state ear.new) }
+    ensures first { (at : ℕ) → result ≡ Status.AirFault at → EarFailsFirst E.state ear.old ear.new }
 {
     let made = listen(alloc, shelf, ear, deck, port);
     give_or_refuse(alloc, shelf, None, made)

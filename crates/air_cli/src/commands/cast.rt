@@ -1,9 +1,10 @@
 //! The command `cast`: a run of a named deck on threads, sent to a port.
 
-ghost use Rattle.std.specs.Prelude.{◌≡◌, ◌≤◌, ◌⊎◌, None, Some, IfErr, IfOk};
+ghost use Rattle.std.specs.Prelude.{◌≡◌, ℕ, ◌≤◌, ◌⊎◌, None, Some, IfErr, IfOk};
 ghost use Rattle.air_base.specs.declared.limits.TheConstants.{MOST_TAPE_BYTES};
 ghost use Rattle.air_devices.specs.Masts.{nothing_sent};
 ghost use Rattle.air_devices.specs.WhatIsTold.{WhereTold};
+ghost use Rattle.deck_runs.specs.Casts.{FailsFirst};
 ghost use Rattle.deck_runs.specs.RunTapes.{run_tape_len};
 ghost use Rattle.air_model.specs.Runs.{Run};
 ghost use Rattle.air_cli.specs.Cast.{HasSent, IsCast, IsCastRefusal, cast_meaning};
@@ -42,6 +43,7 @@ pub(crate) fn cast<R: Threads + Wait + Sync, S: Shelf, M: Mast + Send, G: Gate +
     ensures calm { IfErr result (λ s. s ≡ Status.NoMemory → (M.state mast.new).faults ≡ (M.state mast.old).faults) }
     ensures reads { ReadsInputs (cast_meaning name.now port (M.state mast.old) (M.state mast.new)) (S.state shelf.old) (S.state shelf.new) }
     ensures mast { LeavesMast (Some (AsksCast name.now port)) (S.state shelf.old) (M.state mast.old) (M.state mast.new) }
+    ensures first { IfErr result (λ s. (at : ℕ) → s ≡ Status.AirFault at → FailsFirst M.state mast.old mast.new) }
 {
     let planned = read_runnable_deck(alloc, shelf, name)?;
     let given = cast_on_air(rt, alloc, &planned, mast, port, gate)?;
@@ -50,7 +52,7 @@ pub(crate) fn cast<R: Threads + Wait + Sync, S: Shelf, M: Mast + Send, G: Gate +
 
 /// The report of a run of a deck, which is cast to a port. A deck whose tape would be too long is refused before the mast is aimed. Out of memory, no
 /// call of the mast failed.
-#[tactic(auto, unfolding(crate::specs::Cast::IsCastRefusal), using(crate::proofs::CastLemmas::all_cast, crate::proofs::CastLemmas::part_cast, crate::proofs::CastLemmas::is_cast, crate::proofs::CastLemmas::fault_refused))]
+#[tactic(auto, unfolding(crate::specs::Cast::IsCastRefusal), using(crate::proofs::CastLemmas::all_cast, crate::proofs::CastLemmas::part_cast, crate::proofs::CastLemmas::is_cast, crate::proofs::CastLemmas::fault_refused, crate::proofs::CastLemmas::cast_first))]
 pub fn cast_on_air<R: Threads + Wait + Sync, M: Mast + Send, G: Gate + Sync>(
     rt: &R,
     alloc: Global,
@@ -65,6 +67,7 @@ pub fn cast_on_air<R: Threads + Wait + Sync, M: Mast + Send, G: Gate + Sync>(
     ensures gives { IfOk result (λ given. (run : Run) × IsCast planned.now port (M.state mast.old) (M.state mast.new) given run) }
     ensures refused { IfErr result (IsCastRefusal planned.now port (M.state mast.old) (M.state mast.new)) }
     ensures mast { (M.state mast.new ≡ M.state mast.old) ⊎ HasSent planned.now port (M.state mast.old) (M.state mast.new) }
+    ensures first { IfErr result (λ s. (at : ℕ) → s ≡ Status.AirFault at → FailsFirst M.state mast.old mast.new) }
 {
     if let Some(bytes) = long_run(planned) {
         return Err(Status::TooLong { bytes });

@@ -1,10 +1,10 @@
 //! All readers of a deck hear an ear together: each datagram is decoded once and then dropped.
 
-ghost use Rattle.std.specs.Prelude.{◌≡◌, ◌<◌, ◌+◌, ◌^◌, None, Some, All, IfErr, IfOk, IsSome, OnOk, length, map};
+ghost use Rattle.std.specs.Prelude.{◌≡◌, ℕ, ◌<◌, ◌+◌, ◌^◌, Err, None, Some, All, IfErr, IfOk, IsSome, OnOk, length, map};
 ghost use Rattle.air_model.specs.Buckets.{bucket_in};
 ghost use Rattle.receiver_core.specs.Receivers.{heard_count};
 ghost use Rattle.listeners.specs.Listeners.{hears_one};
-ghost use Rattle.air_cli.specs.Hearings.{AreEarSessions, IsHearAnswer};
+ghost use Rattle.air_cli.specs.Hearings.{AreEarSessions, EarFailsFirst, IsHearAnswer};
 ghost use Rattle.air_cli.specs.Private.EarSteps.{HaveHeardEar};
 
 use air_base::NoMemory;
@@ -63,6 +63,7 @@ fn all_hear_ear<E: Ear>(
     ensures heard { IfOk result (λ ls. HaveHeardEar hears (E.state ear.old).told (E.state ear.new).told listeners.items ls.items) }
     ensures calm { OnOk result ((E.state ear.new).faults ≡ (E.state ear.old).faults) }
     ensures fault { IfErr result (IsHearAnswer hears (E.state ear.old) (E.state ear.new)) }
+    ensures first { (heard : ℕ) → result ≡ Err (HearFault.Ear heard) → EarFailsFirst E.state ear.old ear.new }
     ensures port { (E.state ear.new).port ≡ (E.state ear.old).port }
 {
     let mut listeners = listeners;
@@ -81,7 +82,7 @@ fn all_hear_ear<E: Ear>(
 
 /// Tunes the ear to a port, and lets all readers of a deck hear it until its end, or until they heard as many datagrams as the deck says. The lines
 /// and the counts are those of their sessions over the first 2,048 bytes of each datagram. If the ear failed, `heard` datagrams had been heard
-/// before: 0 if it could not be tuned.
+/// before: 0 if it could not be tuned. It heard nothing after its first failure.
 pub fn ear_sessions<E: Ear>(
     alloc: Global,
     planned: &Planned,
@@ -92,6 +93,7 @@ pub fn ear_sessions<E: Ear>(
     ensures sessions { IfOk result (λ s. AreEarSessions planned.now (E.state ear.old).told (E.state ear.new).told s.verdicts.items s.counts.items) }
     ensures calm { OnOk result ((E.state ear.new).faults ≡ (E.state ear.old).faults) }
     ensures fault { IfErr result (IsHearAnswer planned.now.settings.hears (E.state ear.old) (E.state ear.new)) }
+    ensures first { (heard : ℕ) → result ≡ Err (HearFault.Ear heard) → EarFailsFirst E.state ear.old ear.new }
     ensures port { (E.state ear.new).port ≡ Some port }
 {
     let hears = planned.deck().settings().hears;

@@ -1,6 +1,7 @@
 //! The command `listen`: what a named deck's readers hear on a port.
 
 ghost use Rattle.std.specs.Prelude.{◌≡◌, ◌⊎◌, ℕ, List, None, Some, IfErr, IfOk};
+ghost use Rattle.air_cli.specs.Hearings.{EarFailsFirst};
 ghost use Rattle.air_cli.specs.Listen.{HasHeardPort, IsListenRefusal, IsListening, listen_meaning};
 ghost use Rattle.air_cli.specs.Words.{AsksListen};
 ghost use Rattle.air_cli.specs.OnAir.{LeavesEar};
@@ -32,6 +33,7 @@ pub(crate) fn listen<S: Shelf, E: Ear>(
     ensures calm { IfErr result (λ s. s ≡ Status.NoMemory → (E.state ear.new).faults ≡ (E.state ear.old).faults) }
     ensures reads { ReadsInputs (listen_meaning name.now port (E.state ear.old) (E.state ear.new)) (S.state shelf.old) (S.state shelf.new) }
     ensures ear { LeavesEar (Some (AsksListen name.now port)) (S.state shelf.old) (E.state ear.old) (E.state ear.new) }
+    ensures first { IfErr result (λ s. (at : ℕ) → s ≡ Status.AirFault at → EarFailsFirst E.state ear.old ear.new) }
 {
     let planned = read_runnable_deck(alloc, shelf, name)?;
     let given = hear_on_air(alloc, &planned, ear, port)?;
@@ -39,7 +41,7 @@ pub(crate) fn listen<S: Shelf, E: Ear>(
 }
 
 /// The report of a deck's readers over what they hear on a port. Out of memory, no call of the ear failed.
-#[tactic(auto, unfolding(crate::specs::Listen::IsListenRefusal), using(crate::proofs::ListenLemmas::all_heard, crate::proofs::ListenLemmas::part_heard, crate::proofs::ListenLemmas::fault_refused))]
+#[tactic(auto, unfolding(crate::specs::Listen::IsListenRefusal), using(crate::proofs::ListenLemmas::all_heard, crate::proofs::ListenLemmas::part_heard, crate::proofs::ListenLemmas::fault_refused, crate::proofs::ListenLemmas::hear_first))]
 pub fn hear_on_air<E: Ear>(
     alloc: Global,
     planned: &Planned,
@@ -50,6 +52,7 @@ pub fn hear_on_air<E: Ear>(
     ensures gives { IfOk result (λ given. (heard : List (List ℕ)) × IsListening planned.now port (E.state ear.old) (E.state ear.new) given heard) }
     ensures refused { IfErr result (IsListenRefusal planned.now port (E.state ear.old) (E.state ear.new)) }
     ensures ear { (E.state ear.new ≡ E.state ear.old) ⊎ HasHeardPort planned.now port (E.state ear.old) (E.state ear.new) }
+    ensures first { IfErr result (λ s. (at : ℕ) → s ≡ Status.AirFault at → EarFailsFirst E.state ear.old ear.new) }
 {
     shows_tape_truth(planned);
     match ear_sessions(alloc, planned, ear, port) {

@@ -1,5 +1,5 @@
 use Rattle.air_cli.specs.Cast.{cast_meaning}
-use Rattle.air_cli.proofs.EndLemmas.{answers_ended, leaves_ended}
+use Rattle.air_cli.proofs.EndLemmas.{air_ended, answers_ended, leaves_ended}
 use Rattle.air_cli.proofs.CastLemmas.{cast_sound}
 use Rattle.air_cli.proofs.main_call.cast_deck.Goals as goal
 
@@ -17,3 +17,8 @@ returns-clause-leaves g c =
     let meaning = cast_meaning c.args.deck.now c.args.port (g.M.Mast.state c.args.mast.now) (g.M.Mast.state c.cast-made.new.mast) in
     leaves_ended meaning c.cast-made.result (S.state c.args.shelf.now) (S.state c.cast-made.new.shelf) (S.state c.give_or_refuse.new.shelf) c.give_or_refuse.result c.cast-made.ensures.reads
     c.give_or_refuse.ensures
+
+pub returns-clause-first : goal.returns-clause-first
+returns-clause-first g c =
+    let S = g.S.Shelf in
+    air_ended _ c.cast-made.result (S.state c.cast-made.new.shelf) (S.state c.give_or_refuse.new.shelf) c.give_or_refuse.result c.cast-made.ensures.first c.give_or_refuse.ensures

@@ -1,5 +1,5 @@
 use Rattle.air_cli.specs.Listen.{listen_meaning}
-use Rattle.air_cli.proofs.EndLemmas.{answers_ended, leaves_ended}
+use Rattle.air_cli.proofs.EndLemmas.{air_ended, answers_ended, leaves_ended}
 use Rattle.air_cli.proofs.ListenLemmas.{listen_sound}
 use Rattle.air_cli.proofs.main_call.listen_deck.Goals as goal
 
@@ -17,3 +17,8 @@ returns-clause-leaves g c =
     let meaning = listen_meaning c.args.deck.now c.args.port (g.E.Ear.state c.args.ear.now) (g.E.Ear.state c.listen-made.new.ear) in
     leaves_ended meaning c.listen-made.result (S.state c.args.shelf.now) (S.state c.listen-made.new.shelf) (S.state c.give_or_refuse.new.shelf) c.give_or_refuse.result c.listen-made.ensures.reads
     c.give_or_refuse.ensures
+
+pub returns-clause-first : goal.returns-clause-first
+returns-clause-first g c =
+    let S = g.S.Shelf in
+    air_ended _ c.listen-made.result (S.state c.listen-made.new.shelf) (S.state c.give_or_refuse.new.shelf) c.give_or_refuse.result c.listen-made.ensures.first c.give_or_refuse.ensures

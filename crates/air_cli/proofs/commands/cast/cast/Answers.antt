@@ -1,8 +1,10 @@
-use Rattle.std.proofs.Common.{ap, rules}
+use Rattle.std.proofs.Common.{◌≡◌, ℕ, ap, rules}
+use Rattle.air_report.specs.declared.status.Status.TheVariants as status
+use Rattle.deck_runs.specs.Casts.{FailsFirst}
 use Rattle.air_cli.specs.ReportsAndTapes.{ReportAndTape}
 use Rattle.air_cli.specs.Cast.{CastGives, cast_meaning}
 use Rattle.air_cli.specs.Private.BeforeDelivery.{IsUnmade}
-use Rattle.air_cli.proofs.CastLemmas.{refused_cast}
+use Rattle.air_cli.proofs.CastLemmas.{no_air, refused_cast}
 use Rattle.air_cli.proofs.MakeLemmas.{one_end}
 use Rattle.air_cli.proofs.commands.cast.cast.Goals as goal
 
@@ -31,4 +33,17 @@ returns-in_err-given-clause-unmade g c =
       cause = refused_cast name port old new before now c.in_ok-planned.planned c.in_err-given.field-0.0 planned.deck planned.made planned.runnable c.in_err-given.ensures.refused;
       kept = λ read. planned.reads.calm;
     } in
+    search (rules, h)
+
+pub returns-in_err-planned-clause-first : goal.returns-in_err-planned-clause-first
+returns-in_err-planned-clause-first g c =
+    let m = c.args.mast.now in
+    let e = c.in_err-planned.field-0.0 in
+    let h : (at : ℕ) → e ≡ status.AirFault at → FailsFirst g.M.Mast.state m m = no_air c.args.name.now _ _ e c.in_err-planned.ensures.refused in
+    search (rules, h)
+
+pub returns-in_err-given-clause-first : goal.returns-in_err-given-clause-first
+returns-in_err-given-clause-first g c =
+    let e = c.in_err-given.field-0.0 in
+    let h : (at : ℕ) → e ≡ status.AirFault at → FailsFirst g.M.Mast.state c.args.mast.now c.cast_on_air.new.mast = c.in_err-given.ensures.first in
     search (rules, h)

@@ -1,4 +1,5 @@
 use Rattle.std.proofs.Common.{rules, ◌≡◌, ◌+◌, ◌-◌, ◌≤◌, All, length, take, refl, sym, subst, ◌∙◌, arith}
+use Rattle.air_devices.specs.Counts.{Rose}
 use Rattle.air_devices.specs.Ears.{Hears}
 use Rattle.air_devices.specs.declared.ears.Heard.TheVariants as heard
 use Rattle.listeners.proofs.ReaderLemmas.{HasRoom, room_after}
@@ -70,3 +71,11 @@ loop-n-preserved g c =
       port = c.hear.ensures.port ∙ c.loop-n.invariant.port;
       long = long;
     }
+
+pub returns-in_default-clause-first : goal.returns-in_default-clause-first
+returns-in_default-clause-first g c = λ heard is.
+    let E = g.E.Ear in
+    let i = c.loop-n.invariant in
+    let rose : Rose (E.state c.loop-n.ear).faults (E.state c.hear.new.self).faults = search rules in
+    let kept : (E.state c.hear.new.self).told ≡ (E.state c.loop-n.ear).told = search rules in
+    record { just_before = c.loop-n.ear; calm = i.calm; rose = rose; kept = kept }

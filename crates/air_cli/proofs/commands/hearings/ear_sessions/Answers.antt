@@ -1,9 +1,11 @@
-use Rattle.std.proofs.Common.{rules, ◌≡◌, ◌<◌, ◌^◌, ◌∙◌, All, length, map, ap, sym, subst, arith}
+use Rattle.std.proofs.Common.{rules, ◌≡◌, ◌<◌, ◌^◌, ◌∙◌, All, Err, length, map, refl, ap, sym, subst, arith}
 use Rattle.std.specs.List.{range_with_len}
+use Rattle.air_devices.specs.Counts.{Rose}
 use Rattle.air_model.specs.Buckets.{bucket_in}
 use Rattle.air_model.specs.Decks.{Deck}
 use Rattle.air_model.specs.Reports.{counts_lines, verdict_lines}
 use Rattle.listeners.specs.Listeners.{AreNumbered, end_state, hears}
+use Rattle.deck_runs.proofs.CastLemmas.{passed_on}
 use Rattle.listeners.proofs.ReaderLemmas.{HasRoom, are_numbered, room_at_first, sessions_are}
 use Rattle.air_cli.specs.Hearings.{IsHearAnswer, IsHeardOnEar, TakesUpTo}
 use Rattle.air_cli.specs.declared.commands.hearings.HearFault.TheVariants as fault
@@ -55,3 +57,17 @@ returns-clause-sessions g c =
       verdicts_are = c.in_ok-sessions.ensures.verdicts ∙ ap (λ ls. verdict_lines (map end_state ls)) heard ∙ ap verdict_lines (sessions_are deck h.heard);
       counts_are = c.in_ok-sessions.ensures.counts ∙ ap (λ ls. counts_lines (map end_state ls)) heard ∙ ap counts_lines (sessions_are deck h.heard);
     }
+
+pub returns-then-is_err-clause-first : goal.returns-then-is_err-clause-first
+returns-then-is_err-clause-first g c = λ heard is.
+    let E = g.E.Ear in
+    let rose : Rose (E.state c.args.ear.now).faults (E.state c.tune_in.new.self).faults = search rules in
+    record { just_before = c.args.ear.now; calm = refl; rose = rose; kept = c.tune_in.ensures.kept }
+
+pub returns-in_err-heard-clause-first : goal.returns-in_err-heard-clause-first
+returns-in_err-heard-clause-first g c = λ heard is.
+    let E = g.E.Ear in
+    let calm : (E.state c.tune_in.new.self).faults ≡ (E.state c.args.ear.now).faults = search rules in
+    let e = c.in_err-heard.field-0.0 in
+    let first = c.in_err-heard.ensures.first heard (ap Err (passed_on e (fault.Ear heard) _ c.from_residual-in_err-heard.ensures.1 is)) in
+    record { just_before = first.just_before; calm = first.calm ∙ calm; rose = first.rose; kept = first.kept }
