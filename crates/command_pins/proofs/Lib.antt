@@ -5,6 +5,7 @@ mod ProgramLemmas
 mod RowLemmas
 mod SplitLemmas
 mod WordLemmas
+mod FailureLemmas
 mod DeviceExamples
 mod RightVerdictExamples
 mod UnreadExamples

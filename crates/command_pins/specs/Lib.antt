@@ -1,2 +1,3 @@
 pub mod SmallDecks
 pub mod SmallReportsAndTapes
+pub mod CalmDevices

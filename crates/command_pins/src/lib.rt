@@ -8,6 +8,7 @@
 pub mod cast_pins;
 pub mod device_pins;
 pub mod drill_pins;
+pub mod failure_pins;
 pub mod file_pins;
 pub mod headline_pins;
 pub mod main_pins;
