@@ -3,7 +3,7 @@
 //! When these commits run alone, none of them may write a read's item after that read's origin. The walk begins at the last origin. It ends
 //! at the first write that follows one of the origins, so there is no walk if no item was written again before the last origin.
 
-ghost use Rattle.std.specs.Prelude.{◌≡◌, ◌≤◌, ◌<◌, ◌&&◌, ℕ, true, false, length, get_or, map, All, IfOk, IfSome, Some};
+ghost use Rattle.std.specs.Prelude.{◌≡◌, ◌≤◌, ◌<◌, ◌&&◌, ℕ, true, false, length, get_or, map, All, IfOk, IfSome, OnOk, Some};
 ghost use Rattle.std.specs.List.{list_any};
 ghost use Rattle.air_history.specs.Consistency.{consistent};
 ghost use Rattle.air_history.specs.Histories.{ItemsFit, event_at, writes};
@@ -13,7 +13,7 @@ ghost use Rattle.live_replay.specs.Findings.{place_of_line, places_read};
 ghost use Rattle.live_replay.specs.Private.Alone.{overwrites_read, is_after, is_met};
 
 use crate::replay::{Replay, same_place};
-use crate::sought::{forget_written, none_set, seek_read, writes_sought};
+use crate::sought::{clear_flags, forget_written, seek_read, writes_sought};
 use air_base::{NoMemory, ReadOf};
 use air_history::Event;
 use std::alloc::Global;
@@ -26,6 +26,38 @@ struct WalkRange {
     end: u64,
 }
 
+/// Lists that one question after another uses again: the origins of reads, and the items that a walk looks for.
+#[derive(Debug, Drop)]
+pub struct WalkLists {
+    origins: Vec<Option<u64>>,
+    sought: Vec<bool>,
+}
+
+impl WalkLists {
+    /// Empty lists.
+    pub fn new(alloc: Global) -> WalkLists {
+        WalkLists {
+            origins: Vec::new(alloc),
+            sought: Vec::new(alloc),
+        }
+    }
+}
+
+/// Makes a list that of the origin of each read. What was in it before doesn't matter.
+fn list_origins(
+    replay: &Replay<'_>,
+    reads: &[ReadOf],
+    origins: &mut Vec<Option<u64>>,
+) -> Result<(), NoMemory>
+    ensures { OnOk result (origins.new.items ≡ map (origin replay.now.history) (places_read reads.now)) }
+{
+    origins.clear();
+    for read in reads {
+        origins.push(replay.origin(read.item, read.cycle))?;
+    }
+    Ok(())
+}
+
 /// The origin of each read.
 pub fn origins_of(
     alloc: Global,
@@ -35,9 +67,7 @@ pub fn origins_of(
     ensures { IfOk result (λ origins. origins.items ≡ map (origin replay.now.history) (places_read reads.now)) }
 {
     let mut origins = Vec::new(alloc);
-    for read in reads {
-        origins.push(replay.origin(read.item, read.cycle))?;
-    }
+    list_origins(replay, reads, &mut origins)?;
     Ok(origins)
 }
 
@@ -183,24 +213,35 @@ fn range_of_all(replay: &Replay<'_>, reads: &[ReadOf]) -> WalkRange
 
 /// Whether the reads are consistent, by a walk.
 fn walk(
-    alloc: Global,
     replay: &Replay<'_>,
     reads: &[ReadOf],
     first: usize,
     end: usize,
+    lists: &mut WalkLists,
 ) -> Result<bool, NoMemory>
     requires within { end ≤ length replay.now.history }
     requires first { (q : ℕ) → overwrites_read replay.now.history (places_read reads.now) q ≡ true → first ≤ q }
     requires end { All (λ o. IfSome o (λ w. w < end)) (map (origin replay.now.history) (places_read reads.now)) }
     ensures { IfOk result (λ told. told ≡ consistent replay.now.history (places_read reads.now)) }
 {
-    let origins = origins_of(alloc, replay, reads)?;
-    let mut sought = none_set(alloc, replay.items() as usize)?;
-    Ok(none_late(replay.events(), reads, &origins, first, end, &mut sought))
+    list_origins(replay, reads, &mut lists.origins)?;
+    clear_flags(replay.items() as usize, &mut lists.sought)?;
+    Ok(none_late(
+        replay.events(),
+        reads,
+        &lists.origins,
+        first,
+        end,
+        &mut lists.sought,
+    ))
 }
 
 /// Whether the reads are consistent. If no write that can come late for one of them is before the last origin, they are.
-pub fn is_consistent(alloc: Global, replay: &Replay<'_>, reads: &[ReadOf]) -> Result<bool, NoMemory>
+pub fn is_consistent(
+    replay: &Replay<'_>,
+    reads: &[ReadOf],
+    lists: &mut WalkLists,
+) -> Result<bool, NoMemory>
     ensures { IfOk result (λ told. told ≡ consistent replay.now.history (places_read reads.now)) }
 {
     let range = range_of_all(replay, reads);
@@ -208,5 +249,5 @@ pub fn is_consistent(alloc: Global, replay: &Replay<'_>, reads: &[ReadOf]) -> Re
     if end <= first {
         return Ok(true);
     }
-    walk(alloc, replay, reads, first as usize, end as usize)
+    walk(replay, reads, first as usize, end as usize, lists)
 }

@@ -11,6 +11,7 @@ ghost use Rattle.live_replay.specs.declared.limits.TheConstants.{MOST_REPLAYED};
 pub(crate) mod reports;
 pub(crate) mod texts;
 
+use crate::alone::WalkLists;
 use crate::findings::{AuditError, Finding};
 use crate::limits::MOST_REPLAYED;
 use crate::lines::{look_cause, verdict_cause};
@@ -62,10 +63,11 @@ fn add_verdicts(
     requires sized { length rows.now ≡ length lines.now }
     ensures { OnOk result (found.new.items ≡ found.old.items ++ found_in (verdict_cause replay.now.deck replay.now.history) rows.now lines.now) }
 {
+    let mut lists = WalkLists::new(alloc);
     for (place, line) in lines.iter().enumerate() {
         found.push(Finding {
             row: rows[place],
-            differs: verdict_cause(alloc, replay, line)?,
+            differs: verdict_cause(alloc, replay, line, &mut lists)?,
         })?;
     }
     Ok(())

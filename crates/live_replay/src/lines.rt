@@ -11,6 +11,7 @@ ghost use Rattle.live_replay.specs.Private.Groups.{IsItemRead};
 ghost use Rattle.live_replay.specs.Private.Lines.{EndFits, LineFits};
 ghost use Rattle.live_replay.specs.declared.findings.Cause.{Cause};
 
+use crate::alone::WalkLists;
 use crate::findings::Cause;
 use crate::passing::{all_pass, clash};
 use crate::policies::is_late;
@@ -41,6 +42,7 @@ fn abort_cause(
     reads: &[ReadOf],
     named: ReadOf,
     told: u16,
+    lists: &mut WalkLists,
 ) -> Result<Option<Cause>, NoMemory>
     requires reads { All (λ r. r.cycle ≤ starts replay.now.history) reads.now }
     requires items { All (IsItemRead (length replay.now.deck.items)) reads.now }
@@ -54,7 +56,7 @@ fn abort_cause(
     if is_late(replay.policy(), reads, &named) {
         return Ok(Some(Cause::Verdict));
     }
-    match clash(alloc, replay, reads, &named)? {
+    match clash(alloc, replay, reads, &named, lists)? {
         None => Ok(Some(Cause::Verdict)),
         Some(held) if held.item == told => Ok(None),
         Some(_) => Ok(Some(Cause::Clash)),
@@ -68,6 +70,7 @@ fn end_cause(
     replay: &Replay<'_>,
     reads: &[ReadOf],
     end: VerdictKind,
+    lists: &mut WalkLists,
 ) -> Result<Option<Cause>, NoMemory>
     requires reads { All (λ r. r.cycle ≤ starts replay.now.history) reads.now }
     requires items { All (IsItemRead (length replay.now.deck.items)) reads.now }
@@ -83,7 +86,14 @@ fn end_cause(
     }
     match end {
         VerdictKind::Abort { item, cycle, clash } => {
-            abort_cause(alloc, replay, reads, read_in_cycle(item, cycle), clash)
+            abort_cause(
+                alloc,
+                replay,
+                reads,
+                read_in_cycle(item, cycle),
+                clash,
+                lists,
+            )
         }
         VerdictKind::Aged { item, cycle } => {
             if is_late(replay.policy(), reads, &read_in_cycle(item, cycle)) {
@@ -112,6 +122,7 @@ pub fn verdict_cause(
     alloc: Global,
     replay: &Replay<'_>,
     line: &VerdictLine,
+    lists: &mut WalkLists,
 ) -> Result<Option<Cause>, NoMemory>
     requires { LineFits (length replay.now.deck.items) (starts replay.now.history) line.now }
     ensures { IfOk result (λ cause. cause ≡ verdict_cause replay.now.deck replay.now.history line.now) }
@@ -120,10 +131,10 @@ pub fn verdict_cause(
     if !have_values(replay, reads) {
         return Ok(Some(Cause::Value));
     }
-    if !all_pass(alloc, replay, reads)? {
+    if !all_pass(alloc, replay, reads, lists)? {
         return Ok(Some(Cause::Verdict));
     }
-    end_cause(alloc, replay, reads, line.verdict.kind)
+    end_cause(alloc, replay, reads, line.verdict.kind, lists)
 }
 
 /// Why the line of a glance or a look differs, if it does.

@@ -10,7 +10,7 @@ ghost use Rattle.air_model.specs.Aired.{scheme_in};
 ghost use Rattle.live_replay.specs.Findings.{all_pass, place_of_line, places_read};
 ghost use Rattle.live_replay.specs.Private.Groups.{IsItemRead};
 
-use crate::alone::is_consistent;
+use crate::alone::{WalkLists, is_consistent};
 use crate::group_clashes::{all_pass_by_groups, clash_by_groups};
 use crate::policies::{is_late, least_named, test_of};
 use crate::replay::Replay;
@@ -19,10 +19,10 @@ use std::alloc::Global;
 
 /// The held read with which a new one clashes by the policy.
 fn clash_by_policy(
-    alloc: Global,
     replay: &Replay<'_>,
     held: &[ReadOf],
     read: &ReadOf,
+    lists: &mut WalkLists,
 ) -> Result<Option<Clash>, NoMemory>
     requires held { All (λ r. r.cycle ≤ starts replay.now.history) held.now }
     requires new { read.now.cycle ≤ starts replay.now.history }
@@ -31,7 +31,7 @@ fn clash_by_policy(
 {
     match test_of(replay, held, read) {
         None => Ok(None),
-        Some(test) => least_named(alloc, replay, test, held),
+        Some(test) => least_named(replay, test, held, lists),
     }
 }
 
@@ -41,6 +41,7 @@ pub fn clash(
     replay: &Replay<'_>,
     held: &[ReadOf],
     read: &ReadOf,
+    lists: &mut WalkLists,
 ) -> Result<Option<Clash>, NoMemory>
     requires held { All (λ r. r.cycle ≤ starts replay.now.history) held.now }
     requires held_items { All (IsItemRead (length replay.now.deck.items)) held.now }
@@ -52,16 +53,16 @@ pub fn clash(
     if replay.has_groups() {
         return clash_by_groups(alloc, replay, held, read);
     }
-    clash_by_policy(alloc, replay, held, read)
+    clash_by_policy(replay, held, read, lists)
 }
 
 /// Whether a new read passes after held ones, without groups.
 #[tactic(auto, unfolding(air_history::specs::ClashLaws::passes))]
 fn passes(
-    alloc: Global,
     replay: &Replay<'_>,
     held: &[ReadOf],
     read: &ReadOf,
+    lists: &mut WalkLists,
 ) -> Result<bool, NoMemory>
     requires held { All (λ r. r.cycle ≤ starts replay.now.history) held.now }
     requires new { read.now.cycle ≤ starts replay.now.history }
@@ -72,18 +73,22 @@ fn passes(
     if is_late(replay.policy(), held, read) {
         return Ok(false);
     }
-    Ok(clash_by_policy(alloc, replay, held, read)?.is_none())
+    Ok(clash_by_policy(replay, held, read, lists)?.is_none())
 }
 
 /// Whether each read passes after those before it, without groups. This asks for each read by itself.
-fn each_passes(alloc: Global, replay: &Replay<'_>, reads: &[ReadOf]) -> Result<bool, NoMemory>
+fn each_passes(
+    replay: &Replay<'_>,
+    reads: &[ReadOf],
+    lists: &mut WalkLists,
+) -> Result<bool, NoMemory>
     requires within { All (λ r. r.cycle ≤ starts replay.now.history) reads.now }
     requires bare { has_groups (scheme_in replay.now.deck) ≡ false }
     ensures { IfOk result (λ told. told
         ≡ all_pass (scheme_in replay.now.deck) (length replay.now.deck.items) replay.now.history (places_read reads.now)) }
 {
     for k in 0..reads.len() {
-        if !passes(alloc, replay, &reads[..k], &reads[k])? {
+        if !passes(replay, &reads[..k], &reads[k], lists)? {
             return Ok(false);
         }
     }
@@ -91,7 +96,12 @@ fn each_passes(alloc: Global, replay: &Replay<'_>, reads: &[ReadOf]) -> Result<b
 }
 
 /// Whether each read passes after those before it. Under F-Matrix without groups this is one question about all reads.
-pub fn all_pass(alloc: Global, replay: &Replay<'_>, reads: &[ReadOf]) -> Result<bool, NoMemory>
+pub fn all_pass(
+    alloc: Global,
+    replay: &Replay<'_>,
+    reads: &[ReadOf],
+    lists: &mut WalkLists,
+) -> Result<bool, NoMemory>
     requires within { All (λ r. r.cycle ≤ starts replay.now.history) reads.now }
     requires items { All (IsItemRead (length replay.now.deck.items)) reads.now }
     requires begun { All IsRead (places_read reads.now) }
@@ -102,7 +112,7 @@ pub fn all_pass(alloc: Global, replay: &Replay<'_>, reads: &[ReadOf]) -> Result<
         return all_pass_by_groups(alloc, replay, reads);
     }
     match replay.policy() {
-        Policy::FMatrix => is_consistent(alloc, replay, reads),
-        Policy::Datacycle | Policy::RMatrix => each_passes(alloc, replay, reads),
+        Policy::FMatrix => is_consistent(replay, reads, lists),
+        Policy::Datacycle | Policy::RMatrix => each_passes(replay, reads, lists),
     }
 }

@@ -9,10 +9,9 @@ ghost use Rattle.air_history.specs.Clashes.{clash_by_history, is_late, lesser, n
 ghost use Rattle.live_replay.specs.Findings.{place_of_line, places_read};
 ghost use Rattle.live_replay.specs.Private.NamedClashes.{NamesWithin, clash_named, named_by};
 
-use crate::alone::is_consistent;
+use crate::alone::{WalkLists, is_consistent};
 use crate::replay::Replay;
 use air_base::{Clash, NoMemory, Policy, ReadOf};
-use std::alloc::Global;
 
 /// Which held reads a new one clashes with.
 #[derive(Clone, Copy, Debug, PartialEq, Eq)]
@@ -28,10 +27,10 @@ pub enum ClashTest {
 /// Whether a held read is named.
 #[tactic(auto, unfolding(air_history::specs::Reads::stale))]
 fn is_named(
-    alloc: Global,
     replay: &Replay<'_>,
     test: ClashTest,
     held: &ReadOf,
+    lists: &mut WalkLists,
 ) -> Result<bool, NoMemory>
     requires held { held.now.cycle ≤ starts replay.now.history }
     requires new { NamesWithin (starts replay.now.history) test }
@@ -40,7 +39,7 @@ fn is_named(
     match test {
         ClashTest::StaleAt(cycle) => Ok(!replay.same_origin(held.item, cycle, held.cycle)),
         ClashTest::OfCycle(cycle) => Ok(held.cycle == cycle),
-        ClashTest::ApartFrom(read) => Ok(!is_consistent(alloc, replay, &[*held, read])?),
+        ClashTest::ApartFrom(read) => Ok(!is_consistent(replay, &[*held, read], lists)?),
     }
 }
 
@@ -60,10 +59,10 @@ pub fn lesser(read: &ReadOf, clash: Option<Clash>) -> Clash
 /// The named held read of the least item number.
 #[tactic(auto, using(crate::proofs::PolicyLemmas::named_more, crate::proofs::PolicyLemmas::named_not, crate::proofs::PolicyLemmas::named_none))]
 pub fn least_named(
-    alloc: Global,
     replay: &Replay<'_>,
     test: ClashTest,
     held: &[ReadOf],
+    lists: &mut WalkLists,
 ) -> Result<Option<Clash>, NoMemory>
     requires held { All (λ r. r.cycle ≤ starts replay.now.history) held.now }
     requires new { NamesWithin (starts replay.now.history) test }
@@ -71,7 +70,7 @@ pub fn least_named(
 {
     let mut least = None;
     for k in (0..held.len()).rev() {
-        if is_named(alloc, replay, test, &held[k])? {
+        if is_named(replay, test, &held[k], lists)? {
             least = Some(lesser(&held[k], least));
         }
     }

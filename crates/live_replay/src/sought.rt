@@ -1,6 +1,6 @@
 //! The items that a backward walk looks for: those that a commit reads whose writer it hasn't met yet.
 
-ghost use Rattle.std.specs.Prelude.{◌≡◌, ◌==◌, ◌<◌, ℕ, false, not, ◌&&◌, ◌||◌, All, IfOk, length, get_or};
+ghost use Rattle.std.specs.Prelude.{◌≡◌, ◌==◌, ◌<◌, ℕ, false, not, ◌&&◌, ◌||◌, All, IfOk, OnOk, length, get_or};
 ghost use Rattle.std.specs.List.{list_any};
 
 use air_base::NoMemory;
@@ -13,6 +13,16 @@ pub fn none_set(alloc: Global, count: usize) -> Result<Vec<bool>, NoMemory>
     ensures clear { IfOk result (λ flags. (i : ℕ) → get_or flags.items i false ≡ false) }
 {
     Ok(vec![in alloc; false; count]?)
+}
+
+/// Makes a list this many flags, none of which is set. What was in it before doesn't matter.
+pub fn clear_flags(count: usize, flags: &mut Vec<bool>) -> Result<(), NoMemory>
+    ensures sized { OnOk result (length flags.new.items ≡ count) }
+    ensures clear { OnOk result ((i : ℕ) → get_or flags.new.items i false ≡ false) }
+{
+    flags.clear();
+    flags.resize(count, false)?;
+    Ok(())
 }
 
 /// Whether a write is of an item that is looked for.
