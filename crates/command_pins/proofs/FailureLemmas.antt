@@ -1,5 +1,5 @@
 -- What an ear or a mast told just before its first failure.
-use Rattle.std.proofs.Common.{◌≡◌, ◌+◌, ℕ, Some, List, length, drop, sym, ◌∙◌, subst, arith}
+use Rattle.std.proofs.Common.{◌≡◌, ℕ, Some, List, length, drop, sym, ◌∙◌, subst, arith}
 use Rattle.std.proofs.lemmas.List.{length-drop}
 use Rattle.std.specs.Prelude.{IfErr, Result, Err}
 use Rattle.air_devices.specs.Ears.{EarState}
