@@ -1,16 +1,16 @@
 -- The bytes of a short column: the spelling read back at its places, and the spelling of what is read.
-use Rattle.std.proofs.Common.{◌≡◌, ◌<◌, ◌≤◌, ◌+◌, ◌-◌, ◌*◌, ◌^◌, ◌/◌, ◌%◌, ◌++◌, ◌&&◌, ◌==◌, cond, ℕ, zero, suc, Bool, true, false, List, [], ◌∷◌, length, map, take, drop, get_or, slice_index, nat_le, nat_lt, refl, sym, ◌∙◌, ap, subst, arith, append_assoc, All}
+use Rattle.std.proofs.Common.{◌≡◌, ◌<◌, ◌≤◌, ◌+◌, ◌-◌, ◌*◌, ◌^◌, ◌/◌, ◌%◌, ◌++◌, cond, ℕ, zero, suc, Bool, true, false, List, [], ◌∷◌, length, map, take, drop, get_or, slice_index, nat_le, nat_lt, refl, sym, ◌∙◌, ap, subst, arith, append_assoc, All}
 use Rattle.std.specs.List.{flat_map, range_with_len}
-use Rattle.std.proofs.lemmas.Bool.{and_from, and_parts, eqb-false, le-leb, leb-true, lt-ltb, ltb-false, ltb-true}
-use Rattle.std.proofs.lemmas.List.{append-nil, drop-drop, drop_at, drop_more, get_or-drop, get_or_default, get_or-map, length-append, length-map, take_at}
+use Rattle.std.proofs.lemmas.Bool.{and_from, and_parts, le-leb, leb-true, lt-ltb, ltb-true}
+use Rattle.std.proofs.lemmas.List.{drop_at, drop_more, get_or-drop, get_or_default, length-append, length-map, take_at}
 use Rattle.std.proofs.lemmas.List.FromFn.{get_or-map-range_with_len, length-map-range_with_len}
 use Rattle.byteorder.specs.Endian.{big_bytes, big_number}
-use Rattle.byteorder.specs.Numbers.{big_number-reads_back, length-bytes_high_first}
+use Rattle.byteorder.specs.Numbers.{big_number-reads_back}
 use Rattle.air_base.specs.declared.limits.TheConstants.{AGE_CAP}
 use Rattle.air_history.specs.Ages.{capped}
 use Rattle.short_columns.specs.Listings.{entry_in, listed, rise, unlisted}
 use Rattle.short_columns.specs.ShortColumns.{is_listing, is_young_age, number_at, pair_bytes, pair_told, pairs_at, raw_pair, raw_pairs, short_entries, short_spelling}
-use Rattle.short_columns.proofs.ListingLemmas.{Rises, entries_back, entry_holds, listed_few, listed_is, length_unlisted, pairs_back, rise_by, rise_from, rise_listed, rise_map, rise_parts}
+use Rattle.short_columns.proofs.ListingLemmas.{entries_back, entry_holds, listed_few, listed_is, length_unlisted, pairs_back, rise_by, rise_listed, rise_map, rise_parts}
 
 -- ---- lengths
 
@@ -138,8 +138,7 @@ spelling_back c at entries front rest size few below told =
     ap (rise (λ e. is_young_age c (c - e)) 0 n) (listed_is entries)
     ∙ rise_listed (λ e. is_young_age c (c - e)) 0 n entries (omega arith) (λ k under some. entry_young c (get_or entries k 0) some (below k 0 under) (told k 0 under)) in
     let least : length pairs ≤ n = subst (λ l. length l ≤ n) (sym (listed_is entries)) (listed_few 0 entries) in
-    let back = read_back at c n front rest pairs (λ e. is_young_age c (c - e)) size (omega arith) (omega arith) t in
-    (
+    let back = read_back at c n front rest pairs (λ e. is_young_age c (c - e)) size (omega arith) (omega arith) t in (
       back.count,
       ap (rise (is_young_age c) 0 n) back.raw ∙ rise_map (is_young_age c) (λ e. c - e) 0 n pairs ∙ t,
       ap (λ l. unlisted n (map (pair_told c) l)) back.raw ∙ ap (unlisted n) (told_twice c 0 n pairs t) ∙ entries_back entries,
@@ -234,10 +233,9 @@ listing_spelled c n at bytes small one room t =
     ∙ sym (append_assoc (big_bytes 2 k) body (drop (at + 2 + 3 * (0 + k)) bytes)) in
     let long : length (big_bytes 2 k ++ body) ≡ 2 + 3 * k = let l = length_pairs c pairs in omega arith in
     let size = length_unlisted n pairs in
-    let each = each_told c n pairs one told in
-    (
+    let each = each_told c n pairs one told in (
       ap (take (2 + 3 * k)) whole ∙ take_at (big_bytes 2 k ++ body) (drop (at + 2 + 3 * (0 + k)) bytes) (2 + 3 * k) long
-      ∙ ap (λ m. big_bytes 2 m ++ body) (sym many) ∙ ap (λ l. big_bytes 2 (length l) ++ flat_map (pair_bytes c) l) (sym again),
+          ∙ ap (λ m. big_bytes 2 m ++ body) (sym many) ∙ ap (λ l. big_bytes 2 (length l) ++ flat_map (pair_bytes c) l) (sym again),
       λ i d under. let e = each i (omega arith) in subst (λ x. x < c) (get_or_default (unlisted n pairs) i 0 d under) e.below,
       λ i d under. let e = each i (omega arith) in subst (λ x. capped x c ≡ x) (get_or_default (unlisted n pairs) i 0 d under) e.told,
     )

@@ -1,10 +1,11 @@
 -- The list of entries and the entries of a list: each gives the other back, and the items of a list rise.
 -- The laws use the part on the whole; the loops use the steps of `listed`, `entry_in` and `rise`.
-use Rattle.std.proofs.Common.{◌≡◌, ◌<◌, ◌≤◌, ◌+◌, ◌-◌, ◌++◌, ◌&&◌, ◌==◌, cond, if◌then◌else◌, ℕ, zero, suc, Bool, true, false, List, [], ◌∷◌, length, map, take, drop, get_or, nat_le, nat_lt, refl, sym, ◌∙◌, ap, subst, arith}
-use Rattle.std.specs.List.{enumerate_from, filter, range_with_len}
+use Rattle.std.proofs.Common.{◌≡◌, ◌<◌, ◌≤◌, ◌+◌, ◌++◌, ◌&&◌, ◌==◌, cond, if◌then◌else◌, ℕ, zero, suc, Bool, true, false, List, [], ◌∷◌, length, map, take, drop, get_or, nat_le, nat_lt, refl, sym, ◌∙◌, ap, subst, arith}
+use Rattle.std.specs.List.{count_by, enumerate_from, filter, range_with_len}
 use Rattle.std.proofs.lemmas.Bool.{and_from, and_parts, eq-eqb, eqb-false, eqb-true, le-leb, leb-true, lt-ltb, ltb-false, ltb-true, ne_eqb}
 use Rattle.std.proofs.lemmas.Grind.{same_number_lists}
 use Rattle.std.proofs.lemmas.List.{length-append, take-append-drop}
+use Rattle.std.proofs.lemmas.List.Sums.{sum_by-cons}
 use Rattle.std.proofs.lemmas.List.FromFn.{get_or-map-range_with_len, length-map-range_with_len}
 use Rattle.short_columns.specs.Listings.{entry_in, listed, rise, unlisted}
 
@@ -43,6 +44,14 @@ listed_few low (e ∷ es) = by (nat_lt 0 e) (listed_few (low + 1) es)
     by : (b : Bool) → length (listed_from (low + 1) es) ≤ length es → length (cond b ((low, e) ∷ listed_from (low + 1) es) (listed_from (low + 1) es)) ≤ suc (length es)
     by true few = omega arith
     by false few = omega arith
+
+pub listed_count : (low : ℕ) (es : List ℕ) → length (listed_from low es) ≡ count_by (nat_lt 0) es
+listed_count low [] = refl
+listed_count low (e ∷ es) = by (nat_lt 0 e) (listed_count (low + 1) es) ∙ sym (sum_by-cons (λ x. cond (nat_lt 0 x) 1 0) e es)
+  where
+    by : (b : Bool) → length (listed_from (low + 1) es) ≡ count_by (nat_lt 0) es → length (cond b ((low, e) ∷ listed_from (low + 1) es) (listed_from (low + 1) es)) ≡ cond b 1 0 + count_by (nat_lt 0) es
+    by true rest = omega arith
+    by false rest = omega arith
 
 -- A front of the entries has at most as many that are listed.
 pub front_few : (m : ℕ) (es : List ℕ) → length (listed_from 0 (take m es)) ≤ length (listed_from 0 es)
@@ -199,7 +208,7 @@ pairs_from low zero n [] room t = refl
 pairs_from low zero n (p ∷ pairs) room t = absurd (let r = rise_parts (nat_lt 0) low n p pairs t in let from = r.from in let below = r.below in omega arith)
 pairs_from low (suc k) n [] room t =
     listed_none low (entry_in low []) (map (λ i. entry_in i []) (range_with_len (low + 1) k)) (entry_none low) ∙ pairs_from (low + 1) k n [] (omega arith) t
-pairs_from low (suc k) n (p ∷ pairs) room t = 
+pairs_from low (suc k) n (p ∷ pairs) room t =
     let r = rise_parts (nat_lt 0) low n p pairs t in
     by (p.0 == low) refl r (λ more t. pairs_from (low + 1) k n more (omega arith) t)
   where

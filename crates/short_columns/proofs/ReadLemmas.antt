@@ -24,15 +24,15 @@ raw_more at j bytes under =
 pub raw_all : (at j : ℕ) (bytes : List ℕ) → number_at at 2 bytes ≤ j → drop j (raw_pairs at bytes) ≡ []
 raw_all at j bytes over = drop_all j (raw_pairs at bytes) (omega (arith, length_raw at bytes))
 
-pub pairs_more : (c at j : ℕ) (bytes : List ℕ) → j < number_at at 2 bytes → drop j (pairs_at c at bytes) ≡ pair_told c (raw_pair at bytes j) ∷ drop (j + 1) (pairs_at c at bytes)
+pub told_more : (c at j : ℕ) (bytes : List ℕ) → j < number_at at 2 bytes → drop j (pairs_at c at bytes) ≡ pair_told c (raw_pair at bytes j) ∷ drop (j + 1) (pairs_at c at bytes)
 unfolding pairs_at
-pairs_more c at j bytes under =
+told_more c at j bytes under =
     let raw = raw_pairs at bytes in
     drop-map (pair_told c) j raw ∙ ap (map (pair_told c)) (raw_more at j bytes under) ∙ ap (λ l. pair_told c (raw_pair at bytes j) ∷ l) (sym (drop-map (pair_told c) (j + 1) raw))
 
-pub pairs_all : (c at j : ℕ) (bytes : List ℕ) → number_at at 2 bytes ≤ j → drop j (pairs_at c at bytes) ≡ []
+pub told_all : (c at j : ℕ) (bytes : List ℕ) → number_at at 2 bytes ≤ j → drop j (pairs_at c at bytes) ≡ []
 unfolding pairs_at
-pairs_all c at j bytes over = drop_all j (map (pair_told c) (raw_pairs at bytes)) (omega (arith, length_raw at bytes, length-map (raw_pairs at bytes) (pair_told c)))
+told_all c at j bytes over = drop_all j (map (pair_told c) (raw_pairs at bytes)) (omega (arith, length_raw at bytes, length-map (raw_pairs at bytes) (pair_told c)))
 
 -- ---- the test
 
@@ -71,15 +71,15 @@ tests_end c n at low j bytes over so_far = sym (so_far ∙ ap (rise (is_young_ag
 pub found : (c at j item first e : ℕ) (bytes : List ℕ) → j < number_at at 2 bytes → first ≡ number_at (at + 2 + 3 * j) 2 bytes → first ≡ item → e ≡ c - slice_index bytes (at + 4 + 3 * j)
     → entry_in item (pairs_at c at bytes) ≡ entry_in item (drop j (pairs_at c at bytes)) → e ≡ entry_in item (pairs_at c at bytes)
 found c at j item first e bytes under read same told so_far =
-    told ∙ sym (so_far ∙ ap (entry_in item) (pairs_more c at j bytes under) ∙ entry_here item (pair_told c (raw_pair at bytes j)) (drop (j + 1) (pairs_at c at bytes)) (sym read ∙ same))
+    told ∙ sym (so_far ∙ ap (entry_in item) (told_more c at j bytes under) ∙ entry_here item (pair_told c (raw_pair at bytes j)) (drop (j + 1) (pairs_at c at bytes)) (sym read ∙ same))
 
 pub passed : (c at j item first : ℕ) (bytes : List ℕ) → j < number_at at 2 bytes → first ≡ number_at (at + 2 + 3 * j) 2 bytes → (first ≡ item → ⊥)
     → entry_in item (pairs_at c at bytes) ≡ entry_in item (drop j (pairs_at c at bytes)) → entry_in item (pairs_at c at bytes) ≡ entry_in item (drop (j + 1) (pairs_at c at bytes))
 passed c at j item first bytes under read other so_far =
-    so_far ∙ ap (entry_in item) (pairs_more c at j bytes under) ∙ entry_after item (pair_told c (raw_pair at bytes j)) (drop (j + 1) (pairs_at c at bytes)) (λ same. other (read ∙ same))
+    so_far ∙ ap (entry_in item) (told_more c at j bytes under) ∙ entry_after item (pair_told c (raw_pair at bytes j)) (drop (j + 1) (pairs_at c at bytes)) (λ same. other (read ∙ same))
 
 pub not_found : (c at j item : ℕ) (bytes : List ℕ) → number_at at 2 bytes ≤ j → entry_in item (pairs_at c at bytes) ≡ entry_in item (drop j (pairs_at c at bytes)) → 0 ≡ entry_in item (pairs_at c at bytes)
-not_found c at j item bytes over so_far = sym (so_far ∙ ap (entry_in item) (pairs_all c at j bytes over) ∙ entry_none item)
+not_found c at j item bytes over so_far = sym (so_far ∙ ap (entry_in item) (told_all c at j bytes over) ∙ entry_none item)
 
 -- ---- the entries that are filled in
 
@@ -161,8 +161,8 @@ unfolding put_all
 fill_more c at j item e bytes out filled under read told so_far =
     let rest = drop (j + 1) (pairs_at c at bytes) in
     ap (λ i. put_all rest (set out i e)) read ∙ ap (λ x. put_all rest (set out (number_at (at + 2 + 3 * j) 2 bytes) x)) told
-    ∙ sym (ap (λ l. put_all l out) (pairs_more c at j bytes under)) ∙ so_far
+    ∙ sym (ap (λ l. put_all l out) (told_more c at j bytes under)) ∙ so_far
 
 pub fill_end : (c at j : ℕ) (bytes out filled : List ℕ) → number_at at 2 bytes ≤ j → put_all (drop j (pairs_at c at bytes)) out ≡ filled → out ≡ filled
 unfolding put_all
-fill_end c at j bytes out filled over so_far = sym (ap (λ l. put_all l out) (pairs_all c at j bytes over)) ∙ so_far
+fill_end c at j bytes out filled over so_far = sym (ap (λ l. put_all l out) (told_all c at j bytes over)) ∙ so_far

@@ -2,7 +2,7 @@
 -- `put_next` is the one step of all of them; the loops use the lemmas of the last part.
 use Rattle.std.proofs.Common.{◌≡◌, ◌<◌, ◌≤◌, ◌+◌, ◌-◌, ◌*◌, ◌++◌, ◌&&◌, cond, ℕ, Bool, true, false, List, [], ◌∷◌, length, map, take, drop, set, get_or, nat_lt, refl, sym, ◌∙◌, ap, subst, arith, append_assoc}
 use Rattle.std.specs.List.{flat_map}
-use Rattle.std.proofs.lemmas.Bool.{le-ltb, ltb-false, ltb-true}
+use Rattle.std.proofs.lemmas.Bool.{ltb-false, ltb-true}
 use Rattle.std.proofs.lemmas.List.{append-nil, drop-drop, drop-set, drop_all, drop_at, flat_map_more, length-append, length-drop, length-map, length-take, map_more, take-append-drop, take-map, take-set, take_all, take_at}
 use Rattle.std.proofs.lemmas.Slice.{put_mid-paste}
 use borrow.Rule.Slice.PartMut.{put_mid}
@@ -167,8 +167,7 @@ Written c at i old out es next =
 
 pub written_none : (c at : ℕ) (old es : List ℕ) → Written c at 0 old old es at
 written_none c at old es =
-    let none = ap length (pairs_none c es) in
-    (
+    let none = ap length (pairs_none c es) in (
       omega arith,
       sym (ap (λ l. (take at old ++ flat_map (pair_bytes c) l) ++ drop at old) (pairs_none c es) ∙ ap (λ l. l ++ drop at old) (append-nil (take at old)) ∙ take-append-drop at old),
     )
@@ -191,11 +190,10 @@ written_more c at i next age old out new es is room under some told wrote =
     let more = pairs_more_some c i es under some in
     let counted = ap length more in
     let body = flat_map (pair_bytes c) pairs in
-    let size : length (take at old ++ body) ≡ next = omega (arith, length-append (take at old) body, length-take at old, length_pairs c pairs) in
-    (
+    let size : length (take at old ++ body) ≡ next = omega (arith, length-append (take at old) body, length-take at old, length_pairs c pairs) in (
       omega (arith, length-append pairs (pair ∷ [])),
       put_next old out new (take at old ++ body) (pair_bytes c pair) next 3 size refl is.1 (wrote ∙ ap (λ a. take next out ++ ((big_bytes 2 i ++ a ∷ []) ++ drop (next + 3) out)) told)
-      ∙ ap (λ l. l ++ drop (next + 3) old) (flat_map_more (pair_bytes c) (take at old) pairs pair ∙ ap (λ l. take at old ++ flat_map (pair_bytes c) l) (sym more)),
+          ∙ ap (λ l. l ++ drop (next + 3) old) (flat_map_more (pair_bytes c) (take at old) pairs pair ∙ ap (λ l. take at old ++ flat_map (pair_bytes c) l) (sym more)),
     )
 
 -- The same bytes and the same place under other names.

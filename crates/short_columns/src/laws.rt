@@ -1,6 +1,7 @@
 //! How the listing, the spelling and the reading are related. Each law is the contract of a function that does nothing.
 
 ghost use Rattle.std.specs.Prelude.{◌≡◌, ◌≤◌, ◌<◌, ◌+◌, ◌*◌, ◌++◌, ◌^◌, ℕ, List, All, nat_lt, true, drop, length, slice_index, take};
+ghost use Rattle.std.specs.List.{count_by};
 ghost use Rattle.air_history.specs.Ages.{capped};
 ghost use Rattle.short_columns.specs.Listings.{entry_in, listed, rise, unlisted};
 ghost use Rattle.short_columns.specs.ShortColumns.{is_listing, number_at, pairs_at, short_entries, short_spelling};
@@ -12,9 +13,10 @@ pub fn listing_law()
     ensures rise { (entries : List ℕ) → rise (nat_lt 0) 0 (length entries) (listed entries) ≡ true }
 {}
 
-/// How long lists and their bytes are, and that the entries of a list are those that it has for the items.
+/// How long lists and their bytes are, how many entries are listed, and which entry an item of a list has.
 pub fn length_law()
     ensures listed { (entries : List ℕ) → length (listed entries) ≤ length entries }
+    ensures count { (entries : List ℕ) → length (listed entries) ≡ count_by (nat_lt 0) entries }
     ensures unlisted { (n : ℕ) (pairs : List (ℕ × ℕ)) → length (unlisted n pairs) ≡ n }
     ensures spelling { (c : ℕ) (pairs : List (ℕ × ℕ)) → length (short_spelling c pairs) ≡ 2 + 3 * length pairs }
     ensures entry { (n item : ℕ) (pairs : List (ℕ × ℕ)) → item < n → slice_index (unlisted n pairs) item ≡ entry_in item pairs }

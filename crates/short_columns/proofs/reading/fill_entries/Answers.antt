@@ -1,4 +1,4 @@
-use Rattle.std.proofs.Common.{◌≡◌, ◌∙◌, ◌-◌, List, length, drop, refl, ap, sym, arith}
+use Rattle.std.proofs.Common.{◌∙◌, ◌-◌, length, drop, ap, arith}
 use Rattle.short_columns.specs.ShortColumns.{pairs_at, short_entries}
 use Rattle.short_columns.proofs.ReadLemmas.{fill_end, fill_more, fill_start, item_below, put_all}
 use Rattle.short_columns.proofs.reading.fill_entries.Goals as goal

@@ -1,4 +1,4 @@
-use Rattle.std.proofs.Common.{◌<◌, ◌&&◌, nat_le, nat_lt, ◌∙◌, sym, arith}
+use Rattle.std.proofs.Common.{◌&&◌, nat_le, nat_lt, ◌∙◌, sym, arith}
 use Rattle.std.proofs.lemmas.Bool.{and_parts, ltb-true}
 use Rattle.short_columns.specs.ShortColumns.{is_young_age}
 use Rattle.short_columns.proofs.ReadLemmas.{tests_end, tests_fail, tests_pass, tests_start}

@@ -1,5 +1,5 @@
 use Rattle.std.proofs.Common.{◌∙◌, length, ap, sym, arith}
-use Rattle.short_columns.proofs.WriteLemmas.{count_more, pairs_all, pairs_more_none, pairs_none, pairs_short}
+use Rattle.short_columns.proofs.WriteLemmas.{count_more, pairs_more_none, pairs_none, pairs_short}
 use Rattle.short_columns.proofs.writing.count_listed.Goals as goal
 use Rattle.short_columns.proofs.writing.count_listed.Goals.{then-is_listed, else-is_listed}
 

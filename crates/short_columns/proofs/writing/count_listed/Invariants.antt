@@ -1,4 +1,4 @@
-use Rattle.std.proofs.Common.{◌≡◌, length, take}
+use Rattle.std.proofs.Common.{◌≡◌, length}
 use Rattle.short_columns.proofs.WriteLemmas.{pairs_before}
 use Rattle.short_columns.proofs.writing.count_listed.Given as goal
 

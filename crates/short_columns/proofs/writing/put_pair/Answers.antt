@@ -1,4 +1,4 @@
-use Rattle.std.proofs.Common.{length, arith}
+use Rattle.std.proofs.Common.{arith}
 use Rattle.short_columns.proofs.WriteLemmas.{pair_put}
 use Rattle.short_columns.proofs.writing.put_pair.Goals as goal
 
