@@ -3,3 +3,4 @@ pub mod SmallBoards
 pub mod SmallHistories
 pub mod SmallReads
 pub mod SmallCores
+pub mod SmallColumns

@@ -11,4 +11,5 @@ pub mod commit_pins;
 pub mod held_pins;
 pub mod history_pins;
 pub mod lane_pins;
+pub mod short_pins;
 pub mod vector_pins;
