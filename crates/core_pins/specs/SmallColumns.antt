@@ -2,12 +2,12 @@
 use Rattle.std.specs.Prelude.{ℕ, List, [], ◌∷◌}
 
 -- The entries of six items, of which the items 1 and 4 were written in the cycles 299 and 46.
-abbrev pub column_entries : List ℕ
-column_entries = 0 ∷ 299 ∷ 0 ∷ 0 ∷ 46 ∷ 0 ∷ []
+abbrev pub listing_entries : List ℕ
+listing_entries = 0 ∷ 299 ∷ 0 ∷ 0 ∷ 46 ∷ 0 ∷ []
 
 -- The bytes that tell them in cycle 300.
-abbrev pub column_bytes : List ℕ
-column_bytes = 7 ∷ 0 ∷ 2 ∷ 0 ∷ 1 ∷ 1 ∷ 0 ∷ 4 ∷ 254 ∷ []
+abbrev pub listing_bytes : List ℕ
+listing_bytes = 7 ∷ 0 ∷ 2 ∷ 0 ∷ 1 ∷ 1 ∷ 0 ∷ 4 ∷ 254 ∷ []
 
 -- One item with an age.
 abbrev pub one_pair : ℕ → ℕ → List ℕ

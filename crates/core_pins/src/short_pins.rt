@@ -2,10 +2,10 @@
 //!
 //! In cycle 300 there are six items. Item 1 was written in cycle 299, which is 1 cycle ago, and item 4 in cycle 46, which is 254
 //! cycles ago. A short column begins at place 1.
-#![tactic(auto, unfolding(air_history::specs::Ages::capped, short_columns::specs::Listings::listed, short_columns::specs::Listings::entry_in, short_columns::specs::Listings::unlisted, short_columns::specs::Listings::rise, short_columns::specs::ShortColumns::short_spelling, short_columns::specs::ShortColumns::raw_pairs, short_columns::specs::ShortColumns::pairs_at, short_columns::specs::ShortColumns::is_young_age, short_columns::specs::ShortColumns::is_listing))]
+#![tactic(auto, unfolding(air_history::specs::Ages::capped, short_columns::specs::Listings::listed, short_columns::specs::Listings::listed_entry, short_columns::specs::Listings::unlisted, short_columns::specs::Listings::rise, short_columns::specs::ShortColumns::short_spelling, short_columns::specs::ShortColumns::raw_pairs, short_columns::specs::ShortColumns::pairs_at, short_columns::specs::ShortColumns::is_young_age, short_columns::specs::ShortColumns::is_listing))]
 
 ghost use Rattle.std.specs.Prelude.{◌≡◌, [], ◌∷◌, true, false};
-ghost use Rattle.core_pins.specs.SmallColumns.{column_bytes, column_entries, one_pair, two_pairs};
+ghost use Rattle.core_pins.specs.SmallColumns.{listing_bytes, listing_entries, one_pair, two_pairs};
 
 use short_columns::{count_listed, entry_of, fill_entries, has_listing, is_short, put_short};
 
@@ -39,7 +39,7 @@ pub fn old_entries_counted(entries: &[u32]) -> usize
 /// Promise: buckets and tapes are their grammar
 pub fn entry_for_its_age(out: &mut [u8], entries: &[u32])
     requires out { out.old ≡ 7 ∷ 9 ∷ 9 ∷ 9 ∷ 9 ∷ 9 ∷ 9 ∷ 9 ∷ 9 ∷ 8 ∷ [] }
-    requires entries { entries.now ≡ column_entries }
+    requires entries { entries.now ≡ listing_entries }
     ensures { out.new ≡ 7 ∷ 0 ∷ 2 ∷ 0 ∷ 1 ∷ 1 ∷ 0 ∷ 4 ∷ 254 ∷ 8 ∷ [] }
 {
     put_short(out, 1, 2, 300, entries);
@@ -48,7 +48,7 @@ pub fn entry_for_its_age(out: &mut [u8], entries: &[u32])
 /// Items that rise strictly and have ages are a listing.
 /// Promise: buckets and tapes are their grammar
 pub fn every_listing_refused(bytes: &[u8]) -> bool
-    requires { bytes.now ≡ column_bytes }
+    requires { bytes.now ≡ listing_bytes }
     ensures { result ≡ true }
 {
     has_listing(bytes, 1, 6, 300)
@@ -120,7 +120,7 @@ pub fn age_of_the_whole_air(bytes: &[u8]) -> bool
 /// An item after the last one that is listed has the entry 0, and not that item's.
 /// Promise: buckets and tapes are their grammar
 pub fn last_entry_for_an_unlisted(bytes: &[u8]) -> u32
-    requires { bytes.now ≡ column_bytes }
+    requires { bytes.now ≡ listing_bytes }
     ensures { result ≡ 0 }
 {
     entry_of(bytes, 1, 300, 5)
@@ -129,7 +129,7 @@ pub fn last_entry_for_an_unlisted(bytes: &[u8]) -> u32
 /// The second pair is read too. It also refuses that the age is given for the entry.
 /// Promise: buckets and tapes are their grammar
 pub fn first_pair_alone(bytes: &[u8]) -> u32
-    requires { bytes.now ≡ column_bytes }
+    requires { bytes.now ≡ listing_bytes }
     ensures { result ≡ 46 }
 {
     entry_of(bytes, 1, 300, 4)
@@ -138,9 +138,9 @@ pub fn first_pair_alone(bytes: &[u8]) -> u32
 /// Items that aren't listed get 0, and keep nothing of what was in the slice.
 /// Promise: buckets and tapes are their grammar
 pub fn old_entries_kept(bytes: &[u8], out: &mut [u32])
-    requires bytes { bytes.now ≡ column_bytes }
+    requires bytes { bytes.now ≡ listing_bytes }
     requires out { out.old ≡ 5 ∷ 5 ∷ 5 ∷ 5 ∷ 5 ∷ 5 ∷ [] }
-    ensures { out.new ≡ column_entries }
+    ensures { out.new ≡ listing_entries }
 {
     fill_entries(bytes, 1, 300, out);
 }

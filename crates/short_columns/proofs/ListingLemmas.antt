@@ -1,5 +1,5 @@
 -- The list of entries and the entries of a list: each gives the other back, and the items of a list rise.
--- The laws use the part on the whole; the loops use the steps of `listed`, `entry_in` and `rise`.
+-- The laws use the part on the whole; the loops use the steps of `listed`, `listed_entry` and `rise`.
 use Rattle.std.proofs.Common.{◌≡◌, ◌<◌, ◌≤◌, ◌+◌, ◌++◌, ◌&&◌, ◌==◌, cond, if◌then◌else◌, ℕ, zero, suc, Bool, true, false, List, [], ◌∷◌, length, map, take, drop, get_or, nat_le, nat_lt, refl, sym, ◌∙◌, ap, subst, arith}
 use Rattle.std.specs.List.{count_by, enumerate_from, filter, range_with_len}
 use Rattle.std.proofs.lemmas.Bool.{and_from, and_parts, eq-eqb, eqb-false, eqb-true, le-leb, leb-true, lt-ltb, ltb-false, ltb-true, ne_eqb}
@@ -7,7 +7,7 @@ use Rattle.std.proofs.lemmas.Grind.{same_number_lists}
 use Rattle.std.proofs.lemmas.List.{length-append, take-append-drop}
 use Rattle.std.proofs.lemmas.List.Sums.{sum_by-cons}
 use Rattle.std.proofs.lemmas.List.FromFn.{get_or-map-range_with_len, length-map-range_with_len}
-use Rattle.short_columns.specs.Listings.{entry_in, listed, rise, unlisted}
+use Rattle.short_columns.specs.Listings.{listed_entry, listed, rise, unlisted}
 
 -- ---- lists whose items begin at a place
 
@@ -102,20 +102,20 @@ rise_map test f low n (p ∷ pairs) = ap (λ b. nat_le low p.0 && nat_lt p.0 n &
 
 -- ---- the entry of an item
 
-pub entry_here : (item : ℕ) (p : ℕ × ℕ) (pairs : List (ℕ × ℕ)) → p.0 ≡ item → entry_in item (p ∷ pairs) ≡ p.1
-unfolding entry_in
-entry_here item p pairs same = ap (λ (b : Bool). if b then p.1 else entry_in item pairs) (eq-eqb p.0 item same)
+pub entry_here : (item : ℕ) (p : ℕ × ℕ) (pairs : List (ℕ × ℕ)) → p.0 ≡ item → listed_entry item (p ∷ pairs) ≡ p.1
+unfolding listed_entry
+entry_here item p pairs same = ap (λ (b : Bool). if b then p.1 else listed_entry item pairs) (eq-eqb p.0 item same)
 
-pub entry_after : (item : ℕ) (p : ℕ × ℕ) (pairs : List (ℕ × ℕ)) → (p.0 ≡ item → ⊥) → entry_in item (p ∷ pairs) ≡ entry_in item pairs
-unfolding entry_in
-entry_after item p pairs other = ap (λ (b : Bool). if b then p.1 else entry_in item pairs) (ne_eqb p.0 item other)
+pub entry_after : (item : ℕ) (p : ℕ × ℕ) (pairs : List (ℕ × ℕ)) → (p.0 ≡ item → ⊥) → listed_entry item (p ∷ pairs) ≡ listed_entry item pairs
+unfolding listed_entry
+entry_after item p pairs other = ap (λ (b : Bool). if b then p.1 else listed_entry item pairs) (ne_eqb p.0 item other)
 
-pub entry_none : (item : ℕ) → entry_in item [] ≡ 0
-unfolding entry_in
+pub entry_none : (item : ℕ) → listed_entry item [] ≡ 0
+unfolding listed_entry
 entry_none item = refl
 
 -- An item below all that are listed has none.
-pub entry_before : (test : ℕ → Bool) (item low n : ℕ) (pairs : List (ℕ × ℕ)) → item < low → rise test low n pairs ≡ true → entry_in item pairs ≡ 0
+pub entry_before : (test : ℕ → Bool) (item low n : ℕ) (pairs : List (ℕ × ℕ)) → item < low → rise test low n pairs ≡ true → listed_entry item pairs ≡ 0
 entry_before test item low n [] less t = entry_none item
 entry_before test item low n (p ∷ pairs) less t =
     let r = rise_parts test low n p pairs t in
@@ -123,13 +123,13 @@ entry_before test item low n (p ∷ pairs) less t =
     entry_after item p pairs (λ same. let is = same in omega arith) ∙ entry_before test item (p.0 + 1) n pairs (omega arith) r.rest
 
 -- What holds of 0 and of all that passes the test holds of each entry.
-pub entry_holds : (Q : ℕ → Type 0) (test : ℕ → Bool) (item low n : ℕ) (pairs : List (ℕ × ℕ)) → Q 0 → ((x : ℕ) → test x ≡ true → Q x) → rise test low n pairs ≡ true → Q (entry_in item pairs)
+pub entry_holds : (Q : ℕ → Type 0) (test : ℕ → Bool) (item low n : ℕ) (pairs : List (ℕ × ℕ)) → Q 0 → ((x : ℕ) → test x ≡ true → Q x) → rise test low n pairs ≡ true → Q (listed_entry item pairs)
 entry_holds Q test item low n [] none each t = subst Q (sym (entry_none item)) none
 entry_holds Q test item low n (p ∷ pairs) none each t =
     let r = rise_parts test low n p pairs t in
     by (p.0 == item) refl (each p.1 r.passes) (entry_holds Q test item (p.0 + 1) n pairs none each r.rest)
   where
-    by : (b : Bool) → (p.0 == item) ≡ b → Q p.1 → Q (entry_in item pairs) → Q (entry_in item (p ∷ pairs))
+    by : (b : Bool) → (p.0 == item) ≡ b → Q p.1 → Q (listed_entry item pairs) → Q (listed_entry item (p ∷ pairs))
     by true same here rest = subst Q (sym (entry_here item p pairs (eqb-true p.0 item same))) here
     by false other here rest = subst Q (sym (entry_after item p pairs (eqb-false p.0 item other))) rest
 
@@ -155,32 +155,32 @@ rise_listed test low n (e ∷ es) room each =
 above_zero : (low n : ℕ) (es : List ℕ) → low + length es ≤ n → rise (nat_lt 0) low n (listed_from low es) ≡ true
 above_zero low n es room = rise_listed (nat_lt 0) low n es room (λ k below some. lt-ltb 0 (get_or es k 0) some)
 
-entry_listed : (low i : ℕ) (es : List ℕ) → entry_in (low + i) (listed_from low es) ≡ get_or es i 0
+entry_listed : (low i : ℕ) (es : List ℕ) → listed_entry (low + i) (listed_from low es) ≡ get_or es i 0
 entry_listed low i [] = entry_none (low + i)
 entry_listed low zero (e ∷ es) = by (nat_lt 0 e) refl
   where
-    by : (b : Bool) → nat_lt 0 e ≡ b → entry_in (low + 0) (listed_from low (e ∷ es)) ≡ e
-    by true some = ap (entry_in (low + 0)) (listed_some low e es (ltb-true 0 e some)) ∙ entry_here (low + 0) (low, e) (listed_from (low + 1) es) (omega arith)
+    by : (b : Bool) → nat_lt 0 e ≡ b → listed_entry (low + 0) (listed_from low (e ∷ es)) ≡ e
+    by true some = ap (listed_entry (low + 0)) (listed_some low e es (ltb-true 0 e some)) ∙ entry_here (low + 0) (low, e) (listed_from (low + 1) es) (omega arith)
     by false none =
-        ap (entry_in (low + 0)) (listed_none low e es (zero_from e none))
+        ap (listed_entry (low + 0)) (listed_none low e es (zero_from e none))
         ∙ entry_before (nat_lt 0) (low + 0) (low + 1) (low + 1 + length es) (listed_from (low + 1) es) (omega arith) (above_zero (low + 1) (low + 1 + length es) es (omega arith))
         ∙ sym (zero_from e none)
 entry_listed low (suc i) (e ∷ es) =
     let next : low + suc i ≡ low + 1 + i = omega arith in
-    by (nat_lt 0 e) refl (ap (λ k. entry_in k (listed_from (low + 1) es)) next ∙ entry_listed (low + 1) i es)
+    by (nat_lt 0 e) refl (ap (λ k. listed_entry k (listed_from (low + 1) es)) next ∙ entry_listed (low + 1) i es)
   where
-    by : (b : Bool) → nat_lt 0 e ≡ b → entry_in (low + suc i) (listed_from (low + 1) es) ≡ get_or es i 0 → entry_in (low + suc i) (listed_from low (e ∷ es)) ≡ get_or es i 0
+    by : (b : Bool) → nat_lt 0 e ≡ b → listed_entry (low + suc i) (listed_from (low + 1) es) ≡ get_or es i 0 → listed_entry (low + suc i) (listed_from low (e ∷ es)) ≡ get_or es i 0
     by true some rest =
-        ap (entry_in (low + suc i)) (listed_some low e es (ltb-true 0 e some)) ∙ entry_after (low + suc i) (low, e) (listed_from (low + 1) es) (λ same. let is : low ≡ low + suc i = same in omega arith) ∙ rest
-    by false none rest = ap (entry_in (low + suc i)) (listed_none low e es (zero_from e none)) ∙ rest
+        ap (listed_entry (low + suc i)) (listed_some low e es (ltb-true 0 e some)) ∙ entry_after (low + suc i) (low, e) (listed_from (low + 1) es) (λ same. let is : low ≡ low + suc i = same in omega arith) ∙ rest
+    by false none rest = ap (listed_entry (low + suc i)) (listed_none low e es (zero_from e none)) ∙ rest
 
 pub length_unlisted : (n : ℕ) (pairs : List (ℕ × ℕ)) → length (unlisted n pairs) ≡ n
 unfolding unlisted
-length_unlisted n pairs = length-map-range_with_len (λ item. entry_in item pairs) 0 n
+length_unlisted n pairs = length-map-range_with_len (λ item. listed_entry item pairs) 0 n
 
-pub entry_unlisted : (n item : ℕ) (pairs : List (ℕ × ℕ)) → item < n → get_or (unlisted n pairs) item 0 ≡ entry_in item pairs
+pub entry_unlisted : (n item : ℕ) (pairs : List (ℕ × ℕ)) → item < n → get_or (unlisted n pairs) item 0 ≡ listed_entry item pairs
 unfolding unlisted
-entry_unlisted n item pairs below = get_or-map-range_with_len (λ item. entry_in item pairs) 0 n item item 0 below (omega arith)
+entry_unlisted n item pairs below = get_or-map-range_with_len (λ item. listed_entry item pairs) 0 n item item 0 below (omega arith)
 
 pub entries_back : (es : List ℕ) → unlisted (length es) (listed es) ≡ es
 entries_back es =
@@ -188,7 +188,7 @@ entries_back es =
     same_number_lists (unlisted (length es) (listed es)) es long
     (λ k below.
     let zero_on : k ≡ 0 + k = omega arith in
-    entry_unlisted (length es) k (listed es) (omega arith) ∙ ap (entry_in k) (listed_is es) ∙ ap (λ i. entry_in i (listed_from 0 es)) zero_on ∙ entry_listed 0 k es)
+    entry_unlisted (length es) k (listed es) (omega arith) ∙ ap (listed_entry k) (listed_is es) ∙ ap (λ i. listed_entry i (listed_from 0 es)) zero_on ∙ entry_listed 0 k es)
 
 pub listed_rise : (es : List ℕ) → rise (nat_lt 0) 0 (length es) (listed es) ≡ true
 listed_rise es = ap (rise (nat_lt 0) 0 (length es)) (listed_is es) ∙ above_zero 0 (length es) es (omega arith)
@@ -202,35 +202,35 @@ same_from f g low (suc k) each =
     let rest : map f (range_with_len (low + 1) k) ≡ map g (range_with_len (low + 1) k) = same_from f g (low + 1) k (λ i more. each i (omega arith)) in
     cc
 
-pairs_from : (low k n : ℕ) (pairs : List (ℕ × ℕ)) → n ≡ low + k → rise (nat_lt 0) low n pairs ≡ true → listed_from low (map (λ i. entry_in i pairs) (range_with_len low k)) ≡ pairs
+pairs_from : (low k n : ℕ) (pairs : List (ℕ × ℕ)) → n ≡ low + k → rise (nat_lt 0) low n pairs ≡ true → listed_from low (map (λ i. listed_entry i pairs) (range_with_len low k)) ≡ pairs
 unfolding rise
 pairs_from low zero n [] room t = refl
 pairs_from low zero n (p ∷ pairs) room t = absurd (let r = rise_parts (nat_lt 0) low n p pairs t in let from = r.from in let below = r.below in omega arith)
 pairs_from low (suc k) n [] room t =
-    listed_none low (entry_in low []) (map (λ i. entry_in i []) (range_with_len (low + 1) k)) (entry_none low) ∙ pairs_from (low + 1) k n [] (omega arith) t
+    listed_none low (listed_entry low []) (map (λ i. listed_entry i []) (range_with_len (low + 1) k)) (entry_none low) ∙ pairs_from (low + 1) k n [] (omega arith) t
 pairs_from low (suc k) n (p ∷ pairs) room t =
     let r = rise_parts (nat_lt 0) low n p pairs t in
     by (p.0 == low) refl r (λ more t. pairs_from (low + 1) k n more (omega arith) t)
   where
     Next : Type 0
-    Next = (more : List (ℕ × ℕ)) → rise (nat_lt 0) (low + 1) n more ≡ true → listed_from (low + 1) (map (λ i. entry_in i more) (range_with_len (low + 1) k)) ≡ more
+    Next = (more : List (ℕ × ℕ)) → rise (nat_lt 0) (low + 1) n more ≡ true → listed_from (low + 1) (map (λ i. listed_entry i more) (range_with_len (low + 1) k)) ≡ more
 
-    by : (b : Bool) → (p.0 == low) ≡ b → Rises (nat_lt 0) low n p pairs → Next → listed_from low (map (λ i. entry_in i (p ∷ pairs)) (range_with_len low (suc k))) ≡ p ∷ pairs
+    by : (b : Bool) → (p.0 == low) ≡ b → Rises (nat_lt 0) low n p pairs → Next → listed_from low (map (λ i. listed_entry i (p ∷ pairs)) (range_with_len low (suc k))) ≡ p ∷ pairs
     by true same r next_back =
         let is = eqb-true p.0 low same in
         let head = entry_here low p pairs is in
         let next : p.0 + 1 ≡ low + 1 = omega arith in
         let rest = subst (λ m. rise (nat_lt 0) m n pairs ≡ true) next r.rest in
-        ap (λ e. listed_from low (e ∷ map (λ i. entry_in i (p ∷ pairs)) (range_with_len (low + 1) k))) head
-        ∙ listed_some low p.1 (map (λ i. entry_in i (p ∷ pairs)) (range_with_len (low + 1) k)) (ltb-true 0 p.1 r.passes)
-        ∙ ap (λ l. (low, p.1) ∷ listed_from (low + 1) l) (same_from (λ i. entry_in i (p ∷ pairs)) (λ i. entry_in i pairs) (low + 1) k (λ i more. entry_after i p pairs (λ e. let equal = e in omega arith)))
+        ap (λ e. listed_from low (e ∷ map (λ i. listed_entry i (p ∷ pairs)) (range_with_len (low + 1) k))) head
+        ∙ listed_some low p.1 (map (λ i. listed_entry i (p ∷ pairs)) (range_with_len (low + 1) k)) (ltb-true 0 p.1 r.passes)
+        ∙ ap (λ l. (low, p.1) ∷ listed_from (low + 1) l) (same_from (λ i. listed_entry i (p ∷ pairs)) (λ i. listed_entry i pairs) (low + 1) k (λ i more. entry_after i p pairs (λ e. let equal = e in omega arith)))
         ∙ ap (λ l. (low, p.1) ∷ l) (next_back pairs rest)
         ∙ ap (λ m. (m, p.1) ∷ pairs) (sym is)
     by false other r next_back =
         let apart = eqb-false p.0 low other in
         let from = r.from in
         let more : low + 1 ≤ p.0 = above low p.0 from apart in
-        listed_none low (entry_in low (p ∷ pairs)) (map (λ i. entry_in i (p ∷ pairs)) (range_with_len (low + 1) k))
+        listed_none low (listed_entry low (p ∷ pairs)) (map (λ i. listed_entry i (p ∷ pairs)) (range_with_len (low + 1) k))
         (entry_after low p pairs apart ∙ entry_before (nat_lt 0) low (p.0 + 1) n pairs (omega arith) r.rest)
         ∙ next_back (p ∷ pairs) (rise_from (nat_lt 0) (low + 1) n p pairs more r.below r.passes r.rest)
       where

@@ -3,8 +3,8 @@
 -- cycles ago.
 use Rattle.std.specs.Prelude.{◌≡◌, ℕ, true, false, List, [], ◌∷◌, map, nat_lt, refl}
 use Rattle.air_history.specs.Ages.{capped}
-use Rattle.short_columns.specs.Listings.{all_capped, entry_in, is_short, listed, rise, unlisted}
-use Rattle.short_columns.specs.ShortColumns.{is_listing, is_young_age, number_at, pair_bytes, pair_told, pairs_at, raw_pair, raw_pairs, short_entries, short_spelling}
+use Rattle.short_columns.specs.Listings.{all_capped, listed_entry, is_short, listed, rise, unlisted}
+use Rattle.short_columns.specs.ShortColumns.{is_listing, is_young_age, two_at, pair_spelling, pair_told, pairs_at, raw_pair, raw_pairs, short_entries, short_spelling}
 
 abbrev entries : List ℕ
 entries = 0 ∷ 299 ∷ 0 ∷ 0 ∷ 46 ∷ 0 ∷ []
@@ -28,9 +28,9 @@ pub record Listings : Type 0 where
   two_listed : listed entries ≡ pairs
   none_listed : listed (0 ∷ 0 ∷ []) ≡ []
   -- each item has its own entry, and one that isn't listed has 0, also after the last one
-  entries_in : map (λ item. entry_in item pairs) (0 ∷ 1 ∷ 3 ∷ 4 ∷ 5 ∷ []) ≡ 0 ∷ 299 ∷ 0 ∷ 46 ∷ 0 ∷ []
+  entries_in : map (λ item. listed_entry item pairs) (0 ∷ 1 ∷ 3 ∷ 4 ∷ 5 ∷ []) ≡ 0 ∷ 299 ∷ 0 ∷ 46 ∷ 0 ∷ []
   -- the first pair of an item counts
-  first_counts : entry_in 1 ((1, 7) ∷ (1, 8) ∷ []) ≡ 7
+  first_counts : listed_entry 1 ((1, 7) ∷ (1, 8) ∷ []) ≡ 7
   each_item : unlisted 6 pairs ≡ entries
   two_items : unlisted 2 pairs ≡ 0 ∷ 299 ∷ []
   rising : rise (nat_lt 0) 0 6 pairs ≡ true
@@ -52,7 +52,7 @@ pub record Listings : Type 0 where
   edges : is_short 256 84 ∷ is_short 256 85 ∷ is_short 1024 340 ∷ is_short 1024 341 ∷ [] ≡ true ∷ false ∷ true ∷ false ∷ []
 
 listings : Listings
-unfolding listed entry_in unlisted rise capped
+unfolding listed listed_entry unlisted rise capped
 listings = record {
   two_listed = refl;
   none_listed = refl;
@@ -77,11 +77,11 @@ listings = record {
 
 pub record Bytes : Type 0 where
   -- item 258 has two bytes, the high byte first, and the age of its entry follows
-  one_spelled : pair_bytes 300 (258, 299) ≡ 1 ∷ 2 ∷ 1 ∷ []
+  one_spelled : pair_spelling 300 (258, 299) ≡ 1 ∷ 2 ∷ 1 ∷ []
   two_spelled : short_spelling 300 pairs ≡ 0 ∷ 2 ∷ 0 ∷ 1 ∷ 1 ∷ 0 ∷ 4 ∷ 254 ∷ []
   none_spelled : short_spelling 300 [] ≡ 0 ∷ 0 ∷ []
   -- the number of pairs, an item and its age are read at their places
-  count_read : number_at 1 2 bytes ≡ 2
+  count_read : two_at 1 bytes ≡ 2
   second_read : raw_pair 1 bytes 1 ≡ (4, 254)
   both_read : raw_pairs 1 bytes ≡ (1, 1) ∷ (4, 254) ∷ []
   -- an age tells the entry of that many cycles ago
@@ -104,7 +104,7 @@ pub record Bytes : Type 0 where
   of_many : is_listing 300 1 1 (two_pairs 0 1) ≡ false
 
 of_bytes : Bytes
-unfolding listed entry_in unlisted rise short_spelling raw_pairs pairs_at is_young_age is_listing
+unfolding listed listed_entry unlisted rise short_spelling raw_pairs pairs_at is_young_age is_listing
 of_bytes = record {
   one_spelled = refl;
   two_spelled = refl;

@@ -10,7 +10,7 @@ use Rattle.byteorder.specs.Endian.{big_bytes}
 use Rattle.air_base.specs.declared.limits.TheConstants.{AGE_CAP}
 use Rattle.air_history.specs.Ages.{capped}
 use Rattle.short_columns.specs.Listings.{all_capped, listed}
-use Rattle.short_columns.specs.ShortColumns.{pair_bytes, short_spelling}
+use Rattle.short_columns.specs.ShortColumns.{pair_spelling, short_spelling}
 use Rattle.short_columns.proofs.ByteLemmas.{length_pairs}
 use Rattle.short_columns.proofs.ListingLemmas.{front_few, listed_append, listed_few, listed_from, listed_is, listed_none, listed_some}
 
@@ -58,13 +58,13 @@ pair_put old out at item age room same wrote =
 -- The number of pairs, and the pairs after it.
 pub short_put : (old out new : List ℕ) (c at k : ℕ) (pairs : List (ℕ × ℕ)) → k ≡ length pairs → at + 2 + 3 * k ≤ length old
     → out ≡ take at old ++ (big_bytes 2 k ++ drop (at + 2) old)
-    → new ≡ take (at + 2) out ++ (flat_map (pair_bytes c) pairs ++ drop (at + 2 + 3 * length pairs) out)
+    → new ≡ take (at + 2) out ++ (flat_map (pair_spelling c) pairs ++ drop (at + 2 + 3 * length pairs) out)
     → new ≡ take at old ++ (short_spelling c pairs ++ drop (at + 2 + 3 * k) old)
 unfolding short_spelling
 short_put old out new c at k pairs counted room wrote next =
     let front = take at old in
     let two = big_bytes 2 k in
-    let body = flat_map (pair_bytes c) pairs in
+    let body = flat_map (pair_spelling c) pairs in
     let end : at + 2 + 3 * length pairs ≡ at + 2 + 3 * k = omega arith in
     put_next old out new (front ++ two) body (at + 2) (3 * length pairs) (omega (arith, length-append front two, length-take at old)) (length_pairs c pairs)
     (wrote ∙ sym (append_assoc front two (drop (at + 2) old))) next
@@ -163,13 +163,13 @@ pairs_few c i es =
 -- What is written after i entries: what was before the place, their pairs, and the old bytes after these.
 abbrev pub Written : (c at i : ℕ) → (old out es : List ℕ) → ℕ → Type 0
 Written c at i old out es next =
-    (next ≡ at + 3 * length (pairs_before c i es)) × (out ≡ (take at old ++ flat_map (pair_bytes c) (pairs_before c i es)) ++ drop next old)
+    (next ≡ at + 3 * length (pairs_before c i es)) × (out ≡ (take at old ++ flat_map (pair_spelling c) (pairs_before c i es)) ++ drop next old)
 
 pub written_none : (c at : ℕ) (old es : List ℕ) → Written c at 0 old old es at
 written_none c at old es =
     let none = ap length (pairs_none c es) in (
       omega arith,
-      sym (ap (λ l. (take at old ++ flat_map (pair_bytes c) l) ++ drop at old) (pairs_none c es) ∙ ap (λ l. l ++ drop at old) (append-nil (take at old)) ∙ take-append-drop at old),
+      sym (ap (λ l. (take at old ++ flat_map (pair_spelling c) l) ++ drop at old) (pairs_none c es) ∙ ap (λ l. l ++ drop at old) (append-nil (take at old)) ∙ take-append-drop at old),
     )
 
 -- There is room for one more pair.
@@ -189,26 +189,26 @@ written_more c at i next age old out new es is room under some told wrote =
     let pair : ℕ × ℕ = (i, get_or es i 0) in
     let more = pairs_more_some c i es under some in
     let counted = ap length more in
-    let body = flat_map (pair_bytes c) pairs in
+    let body = flat_map (pair_spelling c) pairs in
     let size : length (take at old ++ body) ≡ next = omega (arith, length-append (take at old) body, length-take at old, length_pairs c pairs) in (
       omega (arith, length-append pairs (pair ∷ [])),
-      put_next old out new (take at old ++ body) (pair_bytes c pair) next 3 size refl is.1 (wrote ∙ ap (λ a. take next out ++ ((big_bytes 2 i ++ a ∷ []) ++ drop (next + 3) out)) told)
-          ∙ ap (λ l. l ++ drop (next + 3) old) (flat_map_more (pair_bytes c) (take at old) pairs pair ∙ ap (λ l. take at old ++ flat_map (pair_bytes c) l) (sym more)),
+      put_next old out new (take at old ++ body) (pair_spelling c pair) next 3 size refl is.1 (wrote ∙ ap (λ a. take next out ++ ((big_bytes 2 i ++ a ∷ []) ++ drop (next + 3) out)) told)
+          ∙ ap (λ l. l ++ drop (next + 3) old) (flat_map_more (pair_spelling c) (take at old) pairs pair ∙ ap (λ l. take at old ++ flat_map (pair_spelling c) l) (sym more)),
     )
 
 -- The same bytes and the same place under other names.
 pub written_as : (c at i next last : ℕ) (old out new es : List ℕ) → Written c at i old out es next → new ≡ out → last ≡ next → Written c at i old new es last
-written_as c at i next last old out new es is same there = (there ∙ is.0, same ∙ is.1 ∙ ap (λ k. (take at old ++ flat_map (pair_bytes c) (pairs_before c i es)) ++ drop k old) (sym there))
+written_as c at i next last old out new es is same there = (there ∙ is.0, same ∙ is.1 ∙ ap (λ k. (take at old ++ flat_map (pair_spelling c) (pairs_before c i es)) ++ drop k old) (sym there))
 
 -- An entry that isn't listed changes nothing.
 pub written_same : (c at i next : ℕ) (old out es : List ℕ) → Written c at i old out es next → i < length es → nat_lt 0 (capped (get_or es i 0) c) ≡ false → Written c at (i + 1) old out es next
 written_same c at i next old out es is under none =
-    subst (λ pairs. (next ≡ at + 3 * length pairs) × (out ≡ (take at old ++ flat_map (pair_bytes c) pairs) ++ drop next old)) (sym (pairs_more_none c i es under none)) is
+    subst (λ pairs. (next ≡ at + 3 * length pairs) × (out ≡ (take at old ++ flat_map (pair_spelling c) pairs) ++ drop next old)) (sym (pairs_more_none c i es under none)) is
 
 pub written_all : (c at i next : ℕ) (old out es : List ℕ) → Written c at i old out es next → length es ≤ i
-    → out ≡ take at old ++ (flat_map (pair_bytes c) (listed (all_capped c es)) ++ drop (at + 3 * length (listed (all_capped c es))) old)
+    → out ≡ take at old ++ (flat_map (pair_spelling c) (listed (all_capped c es)) ++ drop (at + 3 * length (listed (all_capped c es))) old)
 written_all c at i next old out es is over =
     let pairs = pairs_before c i es in
-    let body = flat_map (pair_bytes c) pairs in
+    let body = flat_map (pair_spelling c) pairs in
     is.1 ∙ ap (λ k. (take at old ++ body) ++ drop k old) is.0 ∙ append_assoc (take at old) body (drop (at + 3 * length pairs) old)
-    ∙ ap (λ l. take at old ++ (flat_map (pair_bytes c) l ++ drop (at + 3 * length l) old)) (pairs_all c i es over)
+    ∙ ap (λ l. take at old ++ (flat_map (pair_spelling c) l ++ drop (at + 3 * length l) old)) (pairs_all c i es over)

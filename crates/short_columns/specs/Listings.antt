@@ -9,13 +9,13 @@ unfoldable pub listed : List ℕ → List (ℕ × ℕ)
 listed entries = filter (λ p. nat_lt 0 p.1) (enumerate_from 0 entries)
 
 -- The entry that the pairs give an item: the first one that they have for it, and 0 if they have none.
-unfoldable pub entry_in : ℕ → List (ℕ × ℕ) → ℕ
-entry_in item [] = 0
-entry_in item (p ∷ pairs) = if p.0 == item then p.1 else entry_in item pairs
+unfoldable pub listed_entry : ℕ → List (ℕ × ℕ) → ℕ
+listed_entry item [] = 0
+listed_entry item (p ∷ pairs) = if p.0 == item then p.1 else listed_entry item pairs
 
 -- An entry for each of the n items.
 unfoldable pub unlisted : ℕ → List (ℕ × ℕ) → List ℕ
-unlisted n pairs = map (λ item. entry_in item pairs) (range_with_len 0 n)
+unlisted n pairs = map (λ item. listed_entry item pairs) (range_with_len 0 n)
 
 -- Whether the items of the pairs rise strictly from `low` on and are below n, and the second number of each pair passes the test.
 unfoldable pub rise : (ℕ → Bool) → ℕ → ℕ → List (ℕ × ℕ) → Bool

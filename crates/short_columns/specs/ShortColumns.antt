@@ -10,26 +10,26 @@ use Rattle.short_columns.specs.Listings.{rise, unlisted}
 -- ---- the spelling
 
 -- The bytes of an item and its entry in cycle c: the item, and how many cycles ago it was written.
-abbrev pub pair_bytes : ℕ → ℕ × ℕ → List ℕ
-pair_bytes c p = big_bytes 2 p.0 ++ (c - p.1) ∷ []
+abbrev pub pair_spelling : ℕ → ℕ × ℕ → List ℕ
+pair_spelling c p = big_bytes 2 p.0 ++ (c - p.1) ∷ []
 
 -- The bytes of a short column in cycle c: how many pairs there are, and then each pair.
 unfoldable pub short_spelling : ℕ → List (ℕ × ℕ) → List ℕ
-short_spelling c pairs = big_bytes 2 (length pairs) ++ flat_map (pair_bytes c) pairs
+short_spelling c pairs = big_bytes 2 (length pairs) ++ flat_map (pair_spelling c) pairs
 
 -- ---- the reading
 
--- The number in the n bytes from a place on.
-abbrev pub number_at : ℕ → ℕ → List ℕ → ℕ
-number_at at n bytes = big_number n (drop at bytes)
+-- The number in the two bytes from a place on.
+abbrev pub two_at : ℕ → List ℕ → ℕ
+two_at at bytes = big_number 2 (drop at bytes)
 
 -- Item j and its age in the short column from a place on.
 abbrev pub raw_pair : ℕ → List ℕ → ℕ → ℕ × ℕ
-raw_pair at bytes j = (number_at (at + 2 + 3 * j) 2 bytes, slice_index bytes (at + 4 + 3 * j))
+raw_pair at bytes j = (two_at (at + 2 + 3 * j) bytes, slice_index bytes (at + 4 + 3 * j))
 
 -- The items and their ages in the short column from a place on.
 unfoldable pub raw_pairs : ℕ → List ℕ → List (ℕ × ℕ)
-raw_pairs at bytes = map (raw_pair at bytes) (range_with_len 0 (number_at at 2 bytes))
+raw_pairs at bytes = map (raw_pair at bytes) (range_with_len 0 (two_at at bytes))
 
 -- Whether a listed entry can have this age in cycle c.
 unfoldable pub is_young_age : ℕ → ℕ → Bool

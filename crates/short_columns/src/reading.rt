@@ -3,8 +3,8 @@
 //! It begins at a place in the bytes. `has_listing` tests all of it; the readers read it again.
 
 ghost use Rattle.std.specs.Prelude.{◌≡◌, ◌≤◌, ◌<◌, ◌+◌, ◌-◌, ◌*◌, ◌&&◌, nat_lt, nat_le, true, length, slice_index};
-ghost use Rattle.short_columns.specs.Listings.{entry_in};
-ghost use Rattle.short_columns.specs.ShortColumns.{is_listing, is_young_age, number_at, pairs_at, short_entries};
+ghost use Rattle.short_columns.specs.Listings.{listed_entry};
+ghost use Rattle.short_columns.specs.ShortColumns.{is_listing, is_young_age, two_at, pairs_at, short_entries};
 
 use crate::writing::{COUNT_BYTES, PAIR_BYTES};
 use air_base::limits::AGE_CAP;
@@ -13,7 +13,7 @@ use byteorder::{BigEndian, ByteOrder};
 /// The number in the two bytes from a place.
 fn two_at(bytes: &[u8], at: usize) -> u16
     requires { at + 2 ≤ length bytes.now }
-    ensures { result ≡ number_at at 2 bytes.now }
+    ensures { result ≡ two_at at bytes.now }
 {
     BigEndian::read_u16(&bytes[at..])
 }
@@ -21,7 +21,7 @@ fn two_at(bytes: &[u8], at: usize) -> u16
 /// The number of pairs of the short column at a place.
 pub fn count_at(bytes: &[u8], at: usize) -> u16
     requires { at + COUNT_BYTES ≤ length bytes.now }
-    ensures { result ≡ number_at at 2 bytes.now }
+    ensures { result ≡ two_at at bytes.now }
 {
     two_at(bytes, at)
 }
@@ -29,7 +29,7 @@ pub fn count_at(bytes: &[u8], at: usize) -> u16
 /// Item `j` of the short column at a place.
 fn item_at(bytes: &[u8], at: usize, j: u16) -> u16
     requires { at + COUNT_BYTES + PAIR_BYTES * j + PAIR_BYTES ≤ length bytes.now }
-    ensures { result ≡ number_at (at + 2 + 3 * j) 2 bytes.now }
+    ensures { result ≡ two_at (at + 2 + 3 * j) bytes.now }
 {
     two_at(bytes, at + COUNT_BYTES + PAIR_BYTES * j as usize)
 }
@@ -59,7 +59,7 @@ fn may_follow(low: u16, n: u16, cycle: u32, item: u16, age: u8) -> bool
 
 /// Whether the bytes from a place on give pairs for `n` items in a cycle.
 pub fn has_listing(bytes: &[u8], at: usize, n: u16, cycle: u32) -> bool
-    requires { at + COUNT_BYTES + PAIR_BYTES * number_at at 2 bytes.now ≤ length bytes.now }
+    requires { at + COUNT_BYTES + PAIR_BYTES * two_at at bytes.now ≤ length bytes.now }
     ensures { result ≡ is_listing cycle n at bytes.now }
 {
     let mut low = 0;
@@ -82,8 +82,8 @@ fn entry_of_age(cycle: u32, age: u8) -> u32
 
 /// The entry of an item; 0 if it isn't listed.
 pub fn entry_of(bytes: &[u8], at: usize, cycle: u32, item: u16) -> u32
-    requires { at + COUNT_BYTES + PAIR_BYTES * number_at at 2 bytes.now ≤ length bytes.now }
-    ensures { result ≡ entry_in item (pairs_at cycle at bytes.now) }
+    requires { at + COUNT_BYTES + PAIR_BYTES * two_at at bytes.now ≤ length bytes.now }
+    ensures { result ≡ listed_entry item (pairs_at cycle at bytes.now) }
 {
     for j in 0..count_at(bytes, at) {
         if item_at(bytes, at, j) == item {
@@ -95,7 +95,7 @@ pub fn entry_of(bytes: &[u8], at: usize, cycle: u32, item: u16) -> u32
 
 /// Fills a slice with an entry for each item.
 pub fn fill_entries(bytes: &[u8], at: usize, cycle: u32, out: &mut [u32])
-    requires long { at + COUNT_BYTES + PAIR_BYTES * number_at at 2 bytes.now ≤ length bytes.now }
+    requires long { at + COUNT_BYTES + PAIR_BYTES * two_at at bytes.now ≤ length bytes.now }
     requires told { is_listing cycle (length out.old) at bytes.now ≡ true }
     ensures { out.new ≡ short_entries cycle (length out.old) at bytes.now }
 {

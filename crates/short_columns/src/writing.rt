@@ -8,7 +8,7 @@ ghost use Rattle.std.specs.List.{flat_map};
 ghost use Rattle.byteorder.specs.Endian.{big_bytes};
 ghost use Rattle.air_history.specs.Ages.{capped};
 ghost use Rattle.short_columns.specs.Listings.{all_capped, is_short, listed};
-ghost use Rattle.short_columns.specs.ShortColumns.{pair_bytes, short_spelling};
+ghost use Rattle.short_columns.specs.ShortColumns.{pair_spelling, short_spelling};
 
 use air_base::limits::AGE_CAP;
 use byteorder::{BigEndian, ByteOrder};
@@ -69,7 +69,7 @@ fn put_pairs(out: &mut [u8], at: usize, cycle: u32, entries: &[u32])
     requires below { All (λ e. e < cycle) entries.now }
     requires few { length entries.now < 2 ^ 16 }
     ensures { let pairs = listed (all_capped cycle entries.now) in
-        out.new ≡ take at out.old ++ (flat_map (pair_bytes cycle) pairs ++ drop (at + PAIR_BYTES * length pairs) out.old) }
+        out.new ≡ take at out.old ++ (flat_map (pair_spelling cycle) pairs ++ drop (at + PAIR_BYTES * length pairs) out.old) }
 {
     let mut next = at;
     for (i, entry) in entries.iter().enumerate() {
