@@ -10,7 +10,7 @@ ghost use Rattle.core_pins.specs.SmallColumns.{listing_bytes, listing_entries, o
 use short_columns::{count_listed, entry_of, fill_entries, has_listing, is_short, put_short};
 
 /// A column whose short bytes are as many as the ages of its items isn't short.
-/// Promise: buckets and tapes are their grammar
+/// Promise: short columns are their definition
 pub fn short_at_equal_length() -> bool
     ensures { result ≡ false }
 {
@@ -18,7 +18,7 @@ pub fn short_at_equal_length() -> bool
 }
 
 /// One item more makes the short bytes fewer.
-/// Promise: buckets and tapes are their grammar
+/// Promise: short columns are their definition
 pub fn dense_though_longer() -> bool
     ensures { result ≡ true }
 {
@@ -26,7 +26,7 @@ pub fn dense_though_longer() -> bool
 }
 
 /// An entry of 255 cycles ago isn't listed, and one of 254 is. It also refuses that entries of 0 are counted.
-/// Promise: buckets and tapes are their grammar
+/// Promise: short columns are their definition
 pub fn old_entries_counted(entries: &[u32]) -> usize
     requires { entries.now ≡ 45 ∷ 46 ∷ 0 ∷ 299 ∷ [] }
     ensures { result ≡ 2 }
@@ -36,7 +36,7 @@ pub fn old_entries_counted(entries: &[u32]) -> usize
 
 /// An item is followed by the age of its own entry, and what is before and after the column stays. It also refuses that the
 /// number of items is written for the number of pairs.
-/// Promise: buckets and tapes are their grammar
+/// Promise: short columns are their definition
 pub fn entry_for_its_age(out: &mut [u8], entries: &[u32])
     requires out { out.old ≡ 7 ∷ 9 ∷ 9 ∷ 9 ∷ 9 ∷ 9 ∷ 9 ∷ 9 ∷ 9 ∷ 8 ∷ [] }
     requires entries { entries.now ≡ listing_entries }
@@ -46,7 +46,7 @@ pub fn entry_for_its_age(out: &mut [u8], entries: &[u32])
 }
 
 /// Items that rise strictly and have ages are a listing.
-/// Promise: buckets and tapes are their grammar
+/// Promise: short columns are their definition
 pub fn every_listing_refused(bytes: &[u8]) -> bool
     requires { bytes.now ≡ listing_bytes }
     ensures { result ≡ true }
@@ -55,7 +55,7 @@ pub fn every_listing_refused(bytes: &[u8]) -> bool
 }
 
 /// Items that fall are no listing.
-/// Promise: buckets and tapes are their grammar
+/// Promise: short columns are their definition
 pub fn falling_items_taken(bytes: &[u8]) -> bool
     requires { bytes.now ≡ two_pairs 4 1 }
     ensures { result ≡ false }
@@ -64,7 +64,7 @@ pub fn falling_items_taken(bytes: &[u8]) -> bool
 }
 
 /// An item that is listed twice makes no listing.
-/// Promise: buckets and tapes are their grammar
+/// Promise: short columns are their definition
 pub fn item_listed_twice(bytes: &[u8]) -> bool
     requires { bytes.now ≡ two_pairs 4 4 }
     ensures { result ≡ false }
@@ -72,8 +72,8 @@ pub fn item_listed_twice(bytes: &[u8]) -> bool
     has_listing(bytes, 1, 6, 300)
 }
 
-/// Of one item there can't be two pairs, regardless of their items.
-/// Promise: buckets and tapes are their grammar
+/// A column of one item can't have two pairs, regardless of their items.
+/// Promise: short columns are their definition
 pub fn more_pairs_than_items(bytes: &[u8]) -> bool
     requires { bytes.now ≡ two_pairs 0 1 }
     ensures { result ≡ false }
@@ -81,8 +81,8 @@ pub fn more_pairs_than_items(bytes: &[u8]) -> bool
     has_listing(bytes, 1, 1, 300)
 }
 
-/// Of six items none has the number 6.
-/// Promise: buckets and tapes are their grammar
+/// None of six items has the number 6.
+/// Promise: short columns are their definition
 pub fn item_at_the_limit(bytes: &[u8]) -> bool
     requires { bytes.now ≡ one_pair 6 1 }
     ensures { result ≡ false }
@@ -91,7 +91,7 @@ pub fn item_at_the_limit(bytes: &[u8]) -> bool
 }
 
 /// No entry was written in the cycle that airs it.
-/// Promise: buckets and tapes are their grammar
+/// Promise: short columns are their definition
 pub fn age_zero_taken(bytes: &[u8]) -> bool
     requires { bytes.now ≡ one_pair 4 0 }
     ensures { result ≡ false }
@@ -100,7 +100,7 @@ pub fn age_zero_taken(bytes: &[u8]) -> bool
 }
 
 /// The age of the entry 0 is never listed.
-/// Promise: buckets and tapes are their grammar
+/// Promise: short columns are their definition
 pub fn cap_taken(bytes: &[u8]) -> bool
     requires { bytes.now ≡ one_pair 4 255 }
     ensures { result ≡ false }
@@ -109,7 +109,7 @@ pub fn cap_taken(bytes: &[u8]) -> bool
 }
 
 /// Before the first cycle nothing was written, so no age is the cycle itself.
-/// Promise: buckets and tapes are their grammar
+/// Promise: short columns are their definition
 pub fn age_of_the_whole_air(bytes: &[u8]) -> bool
     requires { bytes.now ≡ one_pair 4 3 }
     ensures { result ≡ false }
@@ -118,7 +118,7 @@ pub fn age_of_the_whole_air(bytes: &[u8]) -> bool
 }
 
 /// An item after the last one that is listed has the entry 0, and not that item's.
-/// Promise: buckets and tapes are their grammar
+/// Promise: short columns are their definition
 pub fn last_entry_for_an_unlisted(bytes: &[u8]) -> u32
     requires { bytes.now ≡ listing_bytes }
     ensures { result ≡ 0 }
@@ -127,7 +127,7 @@ pub fn last_entry_for_an_unlisted(bytes: &[u8]) -> u32
 }
 
 /// The second pair is read too. It also refuses that the age is given for the entry.
-/// Promise: buckets and tapes are their grammar
+/// Promise: short columns are their definition
 pub fn first_pair_alone(bytes: &[u8]) -> u32
     requires { bytes.now ≡ listing_bytes }
     ensures { result ≡ 46 }
@@ -136,7 +136,7 @@ pub fn first_pair_alone(bytes: &[u8]) -> u32
 }
 
 /// Items that aren't listed get 0, and keep nothing of what was in the slice.
-/// Promise: buckets and tapes are their grammar
+/// Promise: short columns are their definition
 pub fn old_entries_kept(bytes: &[u8], out: &mut [u32])
     requires bytes { bytes.now ≡ listing_bytes }
     requires out { out.old ≡ 5 ∷ 5 ∷ 5 ∷ 5 ∷ 5 ∷ 5 ∷ [] }
