@@ -51,7 +51,7 @@ pub struct Conductor {
 }
 
 /// Does the job of an updater that has made no commit.
-fn update<R: Wait>(
+pub fn update<R: Wait>(
     wait: &R,
     alloc: Global,
     station: &Station,
