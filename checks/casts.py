@@ -107,13 +107,14 @@ def aired(history):
 
 
 def try_sent(say, deck, casts):
-    """What a cast sends is what its history airs, and the end, three times. Casts at a rate go on until one commits while it airs, twenty at most."""
+    """What a cast of examples/refused.csv sends is what its history airs, and the end, three times. Each has ten cycles, and at a rate the updates
+    fall between them: casts go on until one does so, twenty at most."""
     changed = 0
     for at in range(20):
         datagrams, history = sent(deck, 40)
         rows = aired(history)
         wanted = [bucket(1, 2, cycle, slot, item, value, column) for cycle, slot, item, value, column in rows] + [b""] * 3
-        whole = sorted(history) == ["commit,0,0", "commit,0,1", "start", "start"]
+        whole = sorted(history) == ["commit,0,0", "commit,0,1"] + ["start"] * 10
         say(whole and datagrams == wanted, f"cast {at + 1} printed {history} and sent {[data.hex() for data in datagrams]}, and not {[data.hex() for data in wanted]}")
         changed += any(any(column) for _, _, _, _, column in rows)
         if changed and at + 1 >= casts:
@@ -248,7 +249,7 @@ def try_casts(say, folder, casts):
     if not os.access(PROGRAM, os.X_OK):
         print("skipped: the program isn't built, so no cast is listened to")
         return
-    try_sent(say, deck_of_two_cycles(folder), casts)
+    try_sent(say, os.path.join(TOP, "examples", "refused.csv"), casts)
     deck = os.path.join(folder, "timetable.csv")
     with open(deck, "w", encoding="utf-8") as file:
         file.write(DECK)
